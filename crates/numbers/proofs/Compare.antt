@@ -1,0 +1,111 @@
+-- What comparisons of floats say: of a float with itself, with zero, and of a float that is not negative with a whole number.
+--     ne-self                      `x != x` asks whether x is a NaN
+--     zero-eq, zero-lt, zero-le    a finite float against zero: its sign tells, and whether it has digits
+--     whole-lt, whole-le           m * 2 ^ e against a float whose value is the whole number n
+-- Assumes nothing.
+use mathlib.Core.Path.{_≡_, refl, sym, _∙_, ap, subst}
+use mathlib.Core.Bool.{Bool, true, false, _&&_, _||_, not, Bool·beq, not-or-self}
+use Prim.Native.Nat.{ℕ, zero, suc, _+_, _*_, _≤_, _<_}
+use native.Mathlib.Nat.{zero-mul, mul-one, mul-pos, mul-right-comm, mul-lt-mul-of-pos-right, mul-le-mul-right, le-of-lt, le-of-eq, zero-lt-suc}
+use native.Mathlib.Omega.{arith}
+use borrow.Author.Tests.{eqb-true, eqb-false, ltb-true, ltb-false, leb-true, leb-false, lt-ltb, le-ltb, le-leb, lt-leb, ne-eqb}
+use lib.Dec.{T, eqb, ltb, leb, eqb-refl, eqb·suc-zero}
+use lib.IntN.{ℤ}
+use lib.Ieee.{Float, nan, inf, fin, ofBits, eq, ne, lt, le, isNan, up, down}
+use lib.Ieee.Bits.{is-true}
+use lib.Ieee.Exact.{HasValue}
+use lib.Ieee.Fits.{up-pos, down-pos}
+use Rattle.numbers.specs.Constants.{zero64}
+
+pub falsehood : {A : Type 0} → false ≡ true → A
+falsehood h = absurd (subst T (sym h) tt)
+
+-- ---- with itself
+beq-self : (s : Bool) → Bool·beq s s ≡ true
+beq-self true = refl
+beq-self false = refl
+
+pub ne-self : (x : Float) → ne x x ≡ isNan x
+unfolding ne eq isNan
+ne-self nan = refl
+ne-self (inf s) = simp beq-self
+ne-self (fin s m e) = simp (is-true (eqb (m * up e * down e) (m * up e * down e)) (eqb-refl (m * up e * down e)), beq-self)
+
+-- ---- with zero
+pub size-pos : (m : ℕ) (e : ℤ) → 0 < suc m * up e
+size-pos m e = mul-pos (zero-lt-suc m) (up-pos e)
+
+digits : (m : ℕ) (e : ℤ) → eqb (m * up e) 0 ≡ eqb m 0
+digits zero e = simp zero-mul
+digits (suc m) e = ne-eqb (suc m * up e) 0 (λ q. omega (arith, size-pos m e)) ∙ sym (eqb·suc-zero m)
+
+and-again : (s a : Bool) → (a && (s || a)) ≡ a
+and-again true true = refl
+and-again true false = refl
+and-again false true = refl
+and-again false false = refl
+
+pub zero-eq : (s : Bool) (m : ℕ) (e : ℤ) → eq (fin s m e) zero64 ≡ eqb m 0
+unfolding eq ofBits
+zero-eq s m e = simp (zero-mul, mul-one, digits, and-again)
+
+pub zero-lt : (s : Bool) (m : ℕ) (e : ℤ) → lt (fin s m e) zero64 ≡ (s && not (eqb m 0))
+unfolding lt ofBits
+zero-lt false m e = le-ltb (m * up e * 1) (0 * down e) (omega arith)
+zero-lt true zero e = simp zero-mul
+zero-lt true (suc m) e = rw (lt-ltb 0 (suc m * up e * 1 + 0 * down e) (omega (arith, size-pos m e)), eqb·suc-zero)
+
+or-again : (s a : Bool) → (s && not a || a) ≡ (s || a)
+or-again true a = not-or-self a
+or-again false a = refl
+
+pub zero-le : (s : Bool) (m : ℕ) (e : ℤ) → le (fin s m e) zero64 ≡ (s || eqb m 0)
+unfolding le
+zero-le s m e = rw (zero-lt s m e, zero-eq s m e, or-again)
+
+-- ---- with a whole number
+
+-- `<=` of two floats that are not negative, as `le` has it
+pub le-test : (a b : ℕ) → (ltb a b || (eqb a b && true)) ≡ leb a b
+le-test a b = go (ltb a b) (eqb a b) (ltb-true a b) (ltb-false a b) (eqb-true a b) (eqb-false a b)
+  where
+    go : (x y : Bool) → (x ≡ true → a < b) → (x ≡ false → b ≤ a) → (y ≡ true → a ≡ b) → (y ≡ false → a ≡ b → ⊥) → (x || (y && true)) ≡ leb a b
+    go true y p q r s = sym (le-leb a b (le-of-lt (p refl)))
+    go false true p q r s = sym (le-leb a b (le-of-eq (r refl)))
+    go false false p q r s =
+        let l : b ≤ a = q refl in
+        let d : a ≡ b → ⊥ = s refl in
+        sym (lt-leb a b (omega arith))
+
+leb-scale : (a b d : ℕ) → 0 < d → leb (a * d) (b * d) ≡ leb a b
+leb-scale a b d D = go (leb a b) refl
+  where
+    go : (x : Bool) → leb a b ≡ x → leb (a * d) (b * d) ≡ x
+    go true h = le-leb (a * d) (b * d) (mul-le-mul-right d (leb-true a b h))
+    go false h = lt-leb (a * d) (b * d) (mul-lt-mul-of-pos-right (leb-false a b h) D)
+
+ltb-scale : (a b d : ℕ) → 0 < d → ltb (a * d) (b * d) ≡ ltb a b
+ltb-scale a b d D = go (ltb a b) refl
+  where
+    go : (x : Bool) → ltb a b ≡ x → ltb (a * d) (b * d) ≡ x
+    go true h = lt-ltb (a * d) (b * d) (mul-lt-mul-of-pos-right (ltb-true a b h) D)
+    go false h = le-ltb (a * d) (b * d) (mul-le-mul-right d (ltb-false a b h))
+
+-- k / d is n, so over another denominator c it is n * c
+whole-over : (k n d c : ℕ) → k * 1 ≡ n * d → k * c ≡ n * c * d
+whole-over k n d c h = ap (λ (x : ℕ). x * c) (sym (mul-one k) ∙ h) ∙ mul-right-comm n d c
+
+pub whole-lt : (y : Float) (n m : ℕ) (e : ℤ) → HasValue y false n 1 → lt y (fin false m e) ≡ ltb (n * down e) (m * up e)
+unfolding lt
+whole-lt nan n m e v = absurd v
+whole-lt (inf s) n m e v = absurd v
+whole-lt (fin true k d) n m e v = falsehood (sym (v .0))
+whole-lt (fin false k d) n m e v = rw (whole-over (k * up d) n (down d) (down e) (v .1)) (ltb-scale (n * down e) (m * up e) (down d) (down-pos d))
+
+pub whole-le : (y : Float) (n m : ℕ) (e : ℤ) → HasValue y false n 1 → le (fin false m e) y ≡ leb (m * up e) (n * down e)
+unfolding le lt eq
+whole-le nan n m e v = absurd v
+whole-le (inf s) n m e v = absurd v
+whole-le (fin true k d) n m e v = falsehood (sym (v .0))
+whole-le (fin false k d) n m e v =
+    rw (le-test, whole-over (k * up d) n (down d) (down e) (v .1)) (leb-scale (m * up e) (n * down e) (down d) (down-pos d))

@@ -1,0 +1,14 @@
+-- What several proofs of `numbers` cite, and what the crates above it can.
+pub mod Compare
+pub mod PlusZero
+pub mod Rounding
+pub mod MinusZero
+pub mod Scan
+pub mod Sign
+pub mod Range
+pub mod WholePart
+pub mod RoundUp
+pub mod Offset
+pub mod Horner
+pub mod Coefficients
+pub mod Determined
