@@ -1,0 +1,104 @@
+//! Sort 3: the ring by itself.
+
+use microwave::magnetron::util::DelayLine;
+
+use super::over_ring;
+use super::over_ring::Machine;
+use crate::values::Role;
+use crate::values::Values;
+use crate::words::Pass;
+use crate::words::Passed;
+use crate::words::Tape;
+
+/// A ring has no settings.
+#[derive(Clone, Debug, Default)]
+pub struct Bare;
+
+#[derive(Clone, Debug, Default)]
+pub enum Operation {
+    #[default]
+    Advance,
+    /// The same where the host lends the cursor.
+    AdvanceLent,
+    Write(f64),
+    GetDelayed,
+    GetDelayedFract(f64),
+    Mute,
+}
+
+const OPERATIONS: [Operation; 6] = [
+    Operation::Advance,
+    Operation::AdvanceLent,
+    Operation::Write(0.0),
+    Operation::GetDelayed,
+    Operation::GetDelayedFract(0.0),
+    Operation::Mute,
+];
+
+impl Pass for Bare {
+    fn pass(&mut self, _tape: &mut dyn Tape) -> Passed {
+        Ok(())
+    }
+}
+
+impl Pass for Operation {
+    fn pass(&mut self, tape: &mut dyn Tape) -> Passed {
+        tape.variant(self, &OPERATIONS)?;
+        match self {
+            Operation::Write(number) | Operation::GetDelayedFract(number) => tape.number(number),
+            _ => Ok(()),
+        }
+    }
+}
+
+impl Machine<Operation> for DelayLine {
+    fn step(&mut self, operation: &Operation) -> f64 {
+        match *operation {
+            Operation::Advance | Operation::AdvanceLent => self.advance(),
+            Operation::Write(sample) => self.write(sample),
+            Operation::GetDelayed => return self.get_delayed(),
+            Operation::GetDelayedFract(fraction) => return self.get_delayed_fract(fraction),
+            Operation::Mute => self.mute(),
+        }
+        0.0
+    }
+
+    fn line(&self) -> &DelayLine {
+        self
+    }
+}
+
+impl over_ring::Settings for Bare {
+    const NAME: &'static str = "ring";
+    type Operation = Operation;
+
+    fn machine(&self, line: DelayLine) -> Box<dyn Machine<Operation>> {
+        Box::new(line)
+    }
+
+    fn random(_values: &mut Values) -> Self {
+        Self
+    }
+
+    fn operation(values: &mut Values) -> Operation {
+        match values.random.below(64) {
+            0 => Operation::Mute,
+            1..8 => Operation::AdvanceLent,
+            8..20 => Operation::Advance,
+            20..30 => Operation::Write(values.number(Role::Sample)),
+            30..40 => Operation::GetDelayed,
+            _ => Operation::GetDelayedFract(values.number(Role::Fraction)),
+        }
+    }
+
+    fn name(operation: &Operation) -> &'static str {
+        match operation {
+            Operation::Advance => "advance",
+            Operation::AdvanceLent => "advance lent",
+            Operation::Write(_) => "write",
+            Operation::GetDelayed => "get_delayed",
+            Operation::GetDelayedFract(_) => "get_delayed_fract",
+            Operation::Mute => "mute",
+        }
+    }
+}

@@ -1,0 +1,69 @@
+//! What the comb and the all-pass are asked: a sample at the whole delay, a sample at a fraction of it, silence.
+
+use crate::values::Role;
+use crate::values::Values;
+use crate::words::Pass;
+use crate::words::Passed;
+use crate::words::Tape;
+
+#[derive(Clone, Debug, Default)]
+pub enum Operation {
+    ProcessSample(f64),
+    ProcessSampleFract(f64, f64),
+    #[default]
+    Mute,
+}
+
+const OPERATIONS: [Operation; 3] =
+    [Operation::ProcessSample(0.0), Operation::ProcessSampleFract(0.0, 0.0), Operation::Mute];
+
+impl Pass for Operation {
+    fn pass(&mut self, tape: &mut dyn Tape) -> Passed {
+        tape.variant(self, &OPERATIONS)?;
+        match self {
+            Operation::ProcessSample(input) => tape.number(input),
+            Operation::ProcessSampleFract(fraction, input) => {
+                tape.number(fraction)?;
+                tape.number(input)
+            }
+            Operation::Mute => Ok(()),
+        }
+    }
+}
+
+impl Operation {
+    pub fn random(values: &mut Values) -> Self {
+        let input = values.number(Role::Sample);
+        match values.random.below(40) {
+            0 => Operation::Mute,
+            1..16 => Operation::ProcessSample(input),
+            _ => Operation::ProcessSampleFract(values.number(Role::Fraction), input),
+        }
+    }
+
+    /// Performs it by the three methods that the comb and the all-pass both have.
+    pub fn perform<M>(
+        &self,
+        machine: &mut M,
+        process_sample: fn(&mut M, f64) -> f64,
+        process_sample_fract: fn(&mut M, f64, f64) -> f64,
+        mute: fn(&mut M),
+    ) -> f64 {
+        match *self {
+            Operation::ProcessSample(input) => process_sample(machine, input),
+            Operation::ProcessSampleFract(fraction, input) => process_sample_fract(machine, fraction, input),
+            Operation::Mute => {
+                mute(machine);
+                0.0
+            }
+        }
+    }
+
+    pub fn name(&self) -> &'static str {
+        match self {
+            Operation::ProcessSample(_) => "process_sample",
+            Operation::ProcessSampleFract(..) => "process_sample_fract",
+            Operation::Mute => "mute",
+        }
+    }
+}
