@@ -1,0 +1,6 @@
+-- What several proofs of `util` cite, what the crates above it can, and the theorems on the whole crate.
+pub mod Ring
+pub mod Delay
+pub mod Comb
+pub mod Listed
+pub mod Determined

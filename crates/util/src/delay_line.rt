@@ -1,0 +1,206 @@
+// The delay line: a cursor by value over a ring that the host lends. The ring's length is the slice's.
+use magnetron::check::Verdict;
+ghost use mathlib.Core.Path.{_≡_};
+ghost use Prim.Native.Nat.{_+_, _-_, _%_, _<_, _≤_};
+ghost use lib.ListN.{length, replicate};
+ghost use Rattle.numbers.specs.Constants.{zero64};
+ghost use Rattle.numbers.specs.Outcome.{outcome};
+ghost use Rattle.util.specs.DelayLine.{inRing, nextSlot, delayed, delayedBy, delayedFract, delayAt, readingOf, advanced, heard, written, muted};
+
+// The slot that is written: a place of a ring where it is below the ring's length.
+pub struct Cursor {
+    pub position: usize,
+}
+
+pub struct Moved {
+    pub verdict: Verdict,
+    pub cursor: Cursor,
+}
+
+pub struct Heard {
+    pub verdict: Verdict,
+    pub sample: f64,
+}
+
+// How far back a fractional read reaches: the offset rounded up, and what that added.
+pub struct Delay {
+    pub whole: usize,
+    pub rest: f64,
+}
+
+// How a ring is read: at the whole delay, or at a fraction of its length.
+pub(crate) enum Read {
+    Whole,
+    Fract(f64),
+}
+
+pub(crate) const DONE: Verdict = Verdict {
+    number: 0,
+    stage: 32,
+};
+
+pub(crate) const REFUSED: Verdict = Verdict {
+    number: 4,
+    stage: 32,
+};
+
+// Whether a single operation on a ring is not refused.
+pub(crate) fn in_ring(position: usize, length: usize) -> bool
+    ensures { λ r. ⌜ r ≡ inRing position length ⌝ }
+{
+    if 32768 < length {
+        return false;
+    }
+    position < length
+}
+
+// The slot after one of a ring.
+pub fn slot_after(length: usize, position: usize) -> usize
+    requires { ⌜ position < length ⌝ }
+    ensures { λ r. ⌜ (r ≡ nextSlot length position) × (r < length) ⌝ }
+{
+    let next = position + 1;
+    if next < length {
+        return next;
+    }
+    0
+}
+
+// The slot that many before one of a ring.
+fn slot_before(length: usize, position: usize, whole: usize) -> usize
+    requires { ⌜ (position < length) × (length ≤ 32768) × (whole < length) ⌝ }
+    ensures { λ r. ⌜ (r ≡ (position + length - whole) % length) × (r < length) ⌝ }
+{
+    if whole <= position {
+        return position - whole;
+    }
+    position + length - whole
+}
+
+// What a read at a fraction of the ring's length needs, worked out once for many samples: no delay where no ring has that length.
+pub fn delay_at(length: usize, fract_offset: f64) -> Delay
+    ensures { λ r. ⌜ r ≡ delayAt length «fract_offset» ⌝ }
+{
+    if !in_ring(0, length) {
+        return Delay {
+            whole: 0,
+            rest: 0.0,
+        };
+    }
+    let last = std::num::nearest_u64_to_f64((length - 1) as u64);
+    let up = numbers::ceil::rounded_up(last * numbers::small::held(fract_offset, 0.0, 1.0));
+    Delay {
+        whole: up.whole as usize,
+        rest: up.gap,
+    }
+}
+
+// The two slots round the delay, with as much of the second as was added. Places are found by a test and not by a remainder, since this runs for each sample.
+pub fn heard_at(ring: &[f64], position: usize, delay: Delay) -> f64
+    requires { ⌜ (position < length (now ring)) × (length (now ring) ≤ 32768) × (delay .whole < length (now ring)) ⌝ }
+    ensures { λ r. ⌜ r ≡ delayedBy delay (now (ring .entry)) position ⌝ }
+{
+    let length = ring.len();
+    let first = slot_before(length, position, delay.whole);
+    let second = slot_after(length, first);
+    (1.0 - delay.rest) * ring[first] + delay.rest * ring[second]
+}
+
+// The sample that a ring gives at a position.
+pub(crate) fn delayed_sample(ring: &[f64], position: usize, read: Read) -> f64
+    requires { ⌜ (position < length (now ring)) × (length (now ring) ≤ 32768) ⌝ }
+    ensures { λ r. ⌜ r ≡ readingOf read (now (ring .entry)) position ⌝ }
+{
+    match read {
+        Read::Whole => {
+            let next = slot_after(ring.len(), position);
+            ring[next]
+        }
+        Read::Fract(fract_offset) => {
+            let delay = delay_at(ring.len(), fract_offset);
+            heard_at(ring, position, delay)
+        }
+    }
+}
+
+// Each slot is 0.0.
+pub(crate) fn silence(ring: &mut [f64])
+    ensures { λ _. ⌜ now (ring .exit) ≡ replicate (length (now (ring .entry))) zero64 ⌝ }
+{
+    let mut i = 0;
+    while i < ring.len() {
+        ring[i] = 0.0;
+        i += 1;
+    }
+}
+
+impl Cursor {
+    // One slot round the ring.
+    pub fn advance(mut self, length: usize) -> Moved
+        ensures { λ r. ⌜ r ≡ advanced self length ⌝ }
+    {
+        if !in_ring(self.position, length) {
+            return Moved {
+                verdict: REFUSED,
+                cursor: self,
+            };
+        }
+        self.position = slot_after(length, self.position);
+        Moved {
+            verdict: DONE,
+            cursor: self,
+        }
+    }
+
+    // Stores a sample at the position.
+    pub fn write(self, ring: &mut [f64], sample: f64) -> Verdict
+        ensures { λ r. ⌜ outcome r (now (ring .exit)) ≡ written self (now (ring .entry)) sample ⌝ }
+    {
+        let position = self.position;
+        if !in_ring(position, ring.len()) {
+            return REFUSED;
+        }
+        ring[position] = sample;
+        DONE
+    }
+
+    // The sample at the whole delay: the slot after the position.
+    pub fn get_delayed(self, ring: &[f64]) -> Heard
+        ensures { λ r. ⌜ r ≡ heard delayed self (now (ring .entry)) ⌝ }
+    {
+        self.get(ring, Read::Whole)
+    }
+
+    // The sample at a fraction of the ring's length.
+    pub fn get_delayed_fract(self, ring: &[f64], fract_offset: f64) -> Heard
+        ensures { λ r. ⌜ r ≡ heard (delayedFract «fract_offset») self (now (ring .entry)) ⌝ }
+    {
+        self.get(ring, Read::Fract(fract_offset))
+    }
+
+    fn get(self, ring: &[f64], read: Read) -> Heard
+        ensures { λ r. ⌜ r ≡ heard (readingOf read) self (now (ring .entry)) ⌝ }
+    {
+        if !in_ring(self.position, ring.len()) {
+            return Heard {
+                verdict: REFUSED,
+                sample: 0.0,
+            };
+        }
+        Heard {
+            verdict: DONE,
+            sample: delayed_sample(ring, self.position, read),
+        }
+    }
+
+    // Each slot is 0.0, and the position stays.
+    pub fn mute(self, ring: &mut [f64]) -> Verdict
+        ensures { λ r. ⌜ outcome r (now (ring .exit)) ≡ muted self (now (ring .entry)) ⌝ }
+    {
+        if !in_ring(self.position, ring.len()) {
+            return REFUSED;
+        }
+        silence(ring);
+        DONE
+    }
+}
