@@ -1,0 +1,43 @@
+-- `microwave::waveguide::guide_of` meets its contract, by its callees'. Assumes nothing.
+use borrow.Author.Needs.{needs}
+use Rattle.microwave.specs.Waveguide.{guideOf}
+use Rattle.microwave.proofs.waveguide.guide_of.Statement.{statement}
+use Rattle.microwave.proofs.waveguide.guide_of.Tie as tie
+
+new-requires : tie.Need-new-requires
+new-requires c κs = search needs
+
+feedback-factor-requires : tie.Need-feedback-factor-requires
+feedback-factor-requires c κs = search needs
+
+length-factor-requires : tie.Need-length-factor-requires
+length-factor-requires c κs = search needs
+
+delay-samples-requires : tie.Need-delay-samples-requires
+delay-samples-requires c κs = search needs
+
+nearest-u64-to-f64-requires : tie.Need-nearest-u64-to-f64-requires
+nearest-u64-to-f64-requires c κs = search needs
+
+held-requires : tie.Need-held-requires
+held-requires c κs = search needs
+
+delay-over-requires : tie.Need-delay-over-requires
+delay-over-requires c κs = search needs
+
+returns : tie.Need-returns
+unfolding guideOf
+returns c = simp ((c .delay-over .ensures), (c .before .held .ensures), (c .before .before .nearest-u64-to-f64 .ensures), (c .before .before .before .delay-samples .ensures), (c .before .before .before .before .length-factor .ensures), (c .before .before .before .before .before .feedback-factor .ensures), (c .before .before .before .before .before .before .new .ensures))
+
+pub guide-of-spec : {M : Type 1} → statement M
+guide-of-spec =
+    tie.close
+    (tie.spec
+    new-requires
+    feedback-factor-requires
+    length-factor-requires
+    delay-samples-requires
+    nearest-u64-to-f64-requires
+    held-requires
+    delay-over-requires
+    returns)

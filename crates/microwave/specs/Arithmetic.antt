@@ -1,0 +1,47 @@
+-- The operations that a filter's formulas are written in. A formula is written once, over any arithmetic, and read twice: in f64, where each operation rounds once, as the contracts have it, and in a field, where nothing rounds, as the theorems have it. Assumes nothing.
+use mathlib.Core.Path.{_≡_}
+use lib.Ieee.{Float, binary64, ofBits, add, sub, mul, div, neg}
+use Rattle.numbers.specs.Constants.{zero64, one64}
+
+pub record Arithmetic : Type 1 where
+  infixl 65 _⊕_ _⊖_
+  infixl 70 _⊗_ _⊘_
+  pub Number : Type 0
+  pub zero : Number
+  pub one : Number
+  pub two : Number
+  pub _⊕_ : Number → Number → Number
+  pub _⊖_ : Number → Number → Number
+  pub _⊗_ : Number → Number → Number
+  pub _⊘_ : Number → Number → Number
+  pub negated : Number → Number
+
+abbrev pub f64-arithmetic : Arithmetic
+f64-arithmetic = record {
+  Number = Float;
+  zero = zero64;
+  one = one64;
+  two = ofBits binary64 0x4000_0000_0000_0000;
+  _⊕_ = add binary64;
+  _⊖_ = sub binary64;
+  _⊗_ = mul binary64;
+  _⊘_ = div binary64;
+  negated = neg;
+}
+
+module _ (A : Arithmetic) where
+  open Arithmetic A using (Number, zero, one, two, _⊕_, _⊖_, _⊗_, _⊘_, negated)
+
+  -- The laws of a field. The quotient by zero is left open: no law speaks of it.
+  pub record Field : Type 0 where
+    pub ⊕-assoc : (x y z : Number) → (x ⊕ y) ⊕ z ≡ x ⊕ (y ⊕ z)
+    pub ⊕-comm : (x y : Number) → x ⊕ y ≡ y ⊕ x
+    pub ⊕-zero : (x : Number) → x ⊕ zero ≡ x
+    pub ⊕-negated : (x : Number) → x ⊕ negated x ≡ zero
+    pub ⊗-assoc : (x y z : Number) → (x ⊗ y) ⊗ z ≡ x ⊗ (y ⊗ z)
+    pub ⊗-comm : (x y : Number) → x ⊗ y ≡ y ⊗ x
+    pub ⊗-one : (x : Number) → x ⊗ one ≡ x
+    pub ⊕-⊗ : (x y z : Number) → (x ⊕ y) ⊗ z ≡ x ⊗ z ⊕ y ⊗ z
+    pub ⊘-⊗ : (x y : Number) → (y ≡ zero → ⊥) → x ⊘ y ⊗ y ≡ x
+    pub two-is : two ≡ one ⊕ one
+    pub ⊖-is : (x y : Number) → x ⊖ y ≡ x ⊕ negated y

@@ -1,0 +1,34 @@
+// The stages without memory: Pass, Pow3, Clip and RingModulator.
+use numbers::small::absolute;
+use numbers::small::maximum;
+use numbers::small::minimum;
+ghost use mathlib.Core.Path.{_≡_};
+ghost use Rattle.microwave.specs.Plain.{clipLimit, shapedOf};
+
+pub enum Shape {
+    Pass,
+    Pow3,
+    Clip { limit: f64 },
+    RingModulator,
+}
+
+// The limit that a window's Clip holds its samples to.
+pub fn clip_limit(limit: f64) -> f64
+    ensures { λ r. ⌜ r ≡ clipLimit limit ⌝ }
+{
+    absolute(limit)
+}
+
+impl Shape {
+    // The sample made of the inputs' samples. RingModulator alone reads the second.
+    pub fn shaped(self, first: f64, second: f64) -> f64
+        ensures { λ r. ⌜ r ≡ shapedOf self first second ⌝ }
+    {
+        match self {
+            Shape::Pass => first,
+            Shape::Pow3 => first * first * first,
+            Shape::Clip { limit } => minimum(maximum(first, -limit), limit),
+            Shape::RingModulator => first * second,
+        }
+    }
+}

@@ -1,0 +1,158 @@
+// One loop per kind over a window: each sample is read, worked by the kind's machine and mixed into the output.
+// These run once the checks have passed: they ask for the places that the checks have looked at.
+use crate::filter::Biquad;
+use crate::filter::Coefficients;
+use crate::filter::OnePole;
+use crate::filter::OnePoleMemory;
+use crate::oscillator::Oscillator;
+use crate::oscillator::Phases;
+use crate::plain::Shape;
+use crate::waveguide::Guide;
+use crate::waveguide::StringMemory;
+use magnetron::input::Input;
+use magnetron::input::fetch;
+use magnetron::write::mix;
+ghost use mathlib.Core.Path.{_≡_};
+ghost use Prim.Native.Nat.{_+_, _<_};
+ghost use lib.ListN.{length};
+ghost use Rattle.magnetron.specs.Inputs.{signalOf};
+ghost use Rattle.microwave.specs.Plain.{shapedOf};
+ghost use Rattle.microwave.specs.Oscillator.{oscillatorNext, oscillatorOut};
+ghost use Rattle.microwave.specs.OnePole.{onePoleNext, onePoleOut};
+ghost use Rattle.microwave.specs.Filter.{biquadNext, biquadOut};
+ghost use Rattle.microwave.specs.Waveguide.{strung, InRing, stringNext, stringOut};
+ghost use Rattle.microwave.specs.Window.{LiesIn, ClearOf, sampled, written, Windowed};
+
+// Where a loop writes: that many samples from base on, stored where the output is stale and added where it is not, each times the level first.
+pub struct Target {
+    pub base: usize,
+    pub samples: usize,
+    pub stale: bool,
+    pub level: f64,
+}
+
+// Writes sample i of a window.
+fn write_sample(own: &mut [f64], target: Target, i: usize, sample: f64)
+    requires { ⌜ target .base + i < length (now own) ⌝ }
+    ensures { λ _. ⌜ now (own .exit) ≡ sampled (now (own .entry)) target i sample ⌝ }
+{
+    let at = target.base + i;
+    own[at] = mix(target.stale, target.level, own[at], sample);
+}
+
+// A shape of two inputs. Where it reads one, the second may be anything that lies clear.
+pub fn plain_window(
+    shape: Shape,
+    own: &mut [f64],
+    other: &[f64],
+    first: Input,
+    second: Input,
+    target: Target,
+)
+    requires { ⌜ (LiesIn target (now own)) × (ClearOf first (now own) (now other) target) × (ClearOf second (now own) (now other) target) ⌝ }
+    ensures { λ _. ⌜ now (own .exit) ≡ written (now (own .entry)) target (λ i. shapedOf shape
+        (signalOf first (now (own .entry)) (now (other .entry)) i) (signalOf second (now (own .entry)) (now (other .entry)) i)) ⌝ }
+{
+    let mut i = 0;
+    while i < target.samples {
+        let x = fetch(own, other, first, i);
+        let y = fetch(own, other, second, i);
+        write_sample(own, target, i, shape.shaped(x, y));
+        i += 1;
+    }
+}
+
+// An oscillator, driven by the input or not. Answers its phases after the window.
+pub fn oscillator_window(
+    k: Oscillator,
+    mut phases: Phases,
+    own: &mut [f64],
+    other: &[f64],
+    input: Input,
+    target: Target,
+) -> Phases
+    requires { ⌜ (LiesIn target (now own)) × (ClearOf input (now own) (now other) target) ⌝ }
+    ensures { λ r. ⌜ Windowed (oscillatorNext k) (oscillatorOut k) phases (signalOf input (now (own .entry)) (now (other .entry))) (now (own .entry)) target r (now (own .exit)) ⌝ }
+{
+    let mut i = 0;
+    while i < target.samples {
+        let x = fetch(own, other, input, i);
+        let stepped = phases.step(k, x);
+        phases = stepped.phases;
+        write_sample(own, target, i, stepped.sample);
+        i += 1;
+    }
+    phases
+}
+
+// A one-pole filter. Answers its memory after the window, as the next two do.
+pub fn one_pole_window(
+    k: OnePole,
+    mut memory: OnePoleMemory,
+    own: &mut [f64],
+    other: &[f64],
+    input: Input,
+    target: Target,
+) -> OnePoleMemory
+    requires { ⌜ (LiesIn target (now own)) × (ClearOf input (now own) (now other) target) ⌝ }
+    ensures { λ r. ⌜ Windowed (onePoleNext k) (onePoleOut k) memory (signalOf input (now (own .entry)) (now (other .entry))) (now (own .entry)) target r (now (own .exit)) ⌝ }
+{
+    let mut i = 0;
+    while i < target.samples {
+        let x = fetch(own, other, input, i);
+        let stepped = memory.step(k, x);
+        memory = stepped.memory;
+        write_sample(own, target, i, stepped.sample);
+        i += 1;
+    }
+    memory
+}
+
+// A biquad filter.
+pub fn biquad_window(
+    k: Coefficients,
+    mut memory: Biquad,
+    own: &mut [f64],
+    other: &[f64],
+    input: Input,
+    target: Target,
+) -> Biquad
+    requires { ⌜ (LiesIn target (now own)) × (ClearOf input (now own) (now other) target) ⌝ }
+    ensures { λ r. ⌜ Windowed (biquadNext k) (biquadOut k) memory (signalOf input (now (own .entry)) (now (other .entry))) (now (own .entry)) target r (now (own .exit)) ⌝ }
+{
+    let mut i = 0;
+    while i < target.samples {
+        let x = fetch(own, other, input, i);
+        let stepped = memory.step(k, x);
+        memory = stepped.memory;
+        write_sample(own, target, i, stepped.sample);
+        i += 1;
+    }
+    memory
+}
+
+// A waveguide, on its own ring.
+pub fn string_window(
+    k: Guide,
+    mut memory: StringMemory,
+    ring: &mut [f64],
+    own: &mut [f64],
+    other: &[f64],
+    input: Input,
+    target: Target,
+) -> StringMemory
+    requires { ⌜ (LiesIn target (now own)) × (ClearOf input (now own) (now other) target) ⌝ }
+    requires { ⌜ InRing k (strung memory (now ring)) ⌝ }
+    ensures { λ r. ⌜ Windowed (stringNext k) (stringOut k) (strung memory (now (ring .entry))) (signalOf input (now (own .entry)) (now (other .entry))) (now (own .entry)) target
+        (strung r (now (ring .exit))) (now (own .exit)) ⌝ }
+{
+    let mut i = 0;
+    while i < target.samples {
+        let x = fetch(own, other, input, i);
+        let stepped = memory.step(k, ring, x);
+        memory = stepped.memory;
+        write_sample(own, target, i, stepped.sample);
+        i += 1;
+    }
+    memory
+}
