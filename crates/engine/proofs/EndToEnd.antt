@@ -1,0 +1,132 @@
+-- Rings end to end: what check 4 tells of one stage, tests of the first n stages, and where a ring ends.
+--     no-ring                  a stage that is no waveguide
+--     fine-at                  a ring that check 4 lets pass keeps its bound
+--     all-none, all-more, all-at, all-fails
+--     sum-step                 a ring ends where the next one begins, or before
+--     Summed, summed-start, summed-more     a loop that adds up the rings' lengths
+-- Assumes nothing.
+use mathlib.Core.Path.{_≡_, refl, sym, ap, ap₂, _∙_}
+use mathlib.Core.Logic.{⊎-elim}
+use mathlib.Core.Bool.{Bool, true, false, _&&_, and-false}
+use mathlib.Core.List.{List, [], _∷_, _++_, append-assoc}
+use Prim.Native.Nat.{ℕ, zero, suc, _+_, _-_, _*_, _<_, _≤_}
+use native.Mathlib.Nat.{eq-or-lt-of-le, le-of-suc-le-suc, le-antisymm}
+use native.Mathlib.Numerals.{add-one}
+use native.Mathlib.Omega.{arith}
+use lib.Dec.{leb}
+use lib.ListN.{length, getD, set, take, drop}
+use lib.Seq.{sets, sets-eq, getD-set-same, getD-set-other}
+use lib.Ieee.{Float}
+use borrow.Author.Tests.{leb-true}
+use borrow.Rule.Slice.PartMut.{putMid, post-is}
+use types.Run.{OneOf, miss}
+use denote.Enum.Declared.{tagOf}
+use Rattle.magnetron.proofs.Tests.{and-left, and-right}
+use Rattle.engine.specs.declared.stage.Kind.{Kind}
+use Rattle.engine.specs.declared.stage.Kind.the-variants.{Pass, Pow3, Clip, Filter, Oscillator, ModOscillator, Waveguide, RingModulator}
+use Rattle.engine.specs.declared.stage.Patch.{Patch}
+use Rattle.engine.specs.declared.state.State.{State}
+use Rattle.engine.specs.Stage.{ringLen, ringFine}
+use Rattle.engine.specs.Run.{noState, stageIn, lenIn, fineIn, sumTo, allTo, ringsOk}
+use Rattle.engine.proofs.stage.Kind.{the-type}
+
+-- the tags of all kinds but Waveguide
+abbrev others : List ℕ
+others = 0 ∷ 1 ∷ 2 ∷ 3 ∷ 4 ∷ 5 ∷ 7 ∷ []
+
+pub no-ring : (kind : Kind) (s : State) → OneOf others (tagOf the-type kind) → (0 ≡ ringLen kind) × (true ≡ ringFine kind s)
+no-ring (Pass a) s h = (refl, refl)
+no-ring (Pow3 a) s h = (refl, refl)
+no-ring (Clip a limit) s h = (refl, refl)
+no-ring (Filter a f) s h = (refl, refl)
+no-ring (Oscillator o) s h = (refl, refl)
+no-ring (ModOscillator a o m) s h = (refl, refl)
+no-ring (Waveguide a g) s h = absurd (miss others 6 tt h)
+no-ring (RingModulator a b) s h = (refl, refl)
+
+fine-len : (kind : Kind) (s : State) → ringFine kind s ≡ true → ringLen kind ≤ 32768
+fine-len (Pass a) s e = omega arith
+fine-len (Pow3 a) s e = omega arith
+fine-len (Clip a limit) s e = omega arith
+fine-len (Filter a f) s e = omega arith
+fine-len (Oscillator o) s e = omega arith
+fine-len (ModOscillator a o m) s e = omega arith
+fine-len (Waveguide a g) s e = omega (arith, leb-true (g .«buffer_size») 32767 (and-left _ _ e))
+fine-len (RingModulator a b) s e = omega arith
+
+pub fine-at : (patch : Patch) (states : List State) (k : ℕ) → fineIn patch states k ≡ true → lenIn patch k ≤ 32768
+fine-at patch states k e = fine-len (stageIn patch k .kind) (getD states k noState) e
+
+module _ (f : ℕ → Bool) where
+  pub all-none : allTo 0 f ≡ true
+  unfolding allTo
+  all-none = refl
+
+  pub all-more : (n : ℕ) → allTo n f ≡ true → f n ≡ true → allTo (n + 1) f ≡ true
+  unfolding allTo
+  all-more n a e = rw add-one (ap₂ _&&_ a e)
+
+  pub all-at : (n : ℕ) → allTo n f ≡ true → (k : ℕ) → k < n → f k ≡ true
+  unfolding allTo
+  all-at zero a k h = absurd (omega arith)
+  all-at (suc n) a k h =
+      ⊎-elim
+      (λ (q : k ≡ n). ap f q ∙ and-right (allTo n f) (f n) a)
+      (λ (l : k < n). all-at n (and-left (allTo n f) (f n) a) k l)
+      (eq-or-lt-of-le (le-of-suc-le-suc h))
+
+  pub all-fails : (n k : ℕ) → k < n → f k ≡ false → allTo n f ≡ false
+  unfolding allTo
+  all-fails zero k h e = absurd (omega arith)
+  all-fails (suc n) k h e =
+      ⊎-elim
+      (λ (q : k ≡ n). ap (λ (t : Bool). allTo n f && t) (ap f (sym q) ∙ e) ∙ and-false (allTo n f))
+      (λ (l : k < n). ap (λ (t : Bool). t && f n) (all-fails n k l e))
+      (eq-or-lt-of-le (le-of-suc-le-suc h))
+
+module _ (f : ℕ → ℕ) where
+  pub sum-step : (i j : ℕ) → i < j → sumTo i f + f i ≤ sumTo j f
+  unfolding sumTo
+  sum-step i zero h = absurd (omega arith)
+  sum-step i (suc j) h =
+      ⊎-elim
+      (λ (q : i ≡ j). rw q (omega arith))
+      (λ (l : i < j). omega (arith, sum-step i j l))
+      (eq-or-lt-of-le (le-of-suc-le-suc h))
+
+  -- the first k of n lengths add up to `end`, and stay within their bounds
+  pub record Summed (n k end : ℕ) : Type 0 where
+    pub upto : k ≤ n
+    pub sum : end ≡ sumTo k f
+    pub small : end ≤ k * 32768
+
+  pub summed-start : (n : ℕ) → Summed n 0 0
+  unfolding sumTo
+  summed-start n = record { upto = omega arith; sum = refl; small = omega arith }
+
+  pub summed-more : (n k end len : ℕ) → Summed n k end → k < n → len ≡ f k → f k ≤ 32768 → Summed n (k + 1) (end + len)
+  unfolding sumTo
+  summed-more n k end len s h e b = record { upto = omega arith; sum = rw (add-one, s .sum, e) refl; small = omega arith }
+
+-- a list that is filled from the front with a function's values
+pub set-more : (l : List ℕ) (k v : ℕ) (f : ℕ → ℕ) → length l ≡ 32 → k < 32 → ((i : ℕ) → i < k → getD l i 0 ≡ f i) → v ≡ f k → (i : ℕ) → i < k + 1 → getD (set l k v) i 0 ≡ f i
+set-more l k v f long h e q i b =
+    ⊎-elim
+    (λ (s : i ≡ k). ap (λ (j : ℕ). getD (set l k v) j 0) s ∙ getD-set-same l k v 0 (omega arith) ∙ q ∙ ap f (sym s))
+    (λ (s : i < k). getD-set-other l k i v 0 (λ z. omega arith) ∙ e i s)
+    (eq-or-lt-of-le (omega arith))
+
+pub rings-fit : (patch : Patch) (states : List State) (room k end : ℕ) → Summed (lenIn patch) (patch .count) k end → allTo k (fineIn patch states) ≡ true → patch .count ≤ k
+    → leb end room ≡ ringsOk patch states room
+unfolding ringsOk
+rings-fit patch states room k end s e h =
+    let q : k ≡ patch .count = le-antisymm (s .upto) h in
+    rw (sym q, e, s .sum) refl
+
+-- a part that was lent comes back in its place
+pub part-put : (l v : List Float) (a e : ℕ) → a ≤ e → e ≤ length l → length v ≡ e - a → putMid a (e - a) l v ≡ sets l a v
+part-put l v a e h g q =
+    let long : e ≡ a + length v = omega arith in
+    ap (λ (r : List Float). take a l ++ (v ++ r)) (post-is a e l h ∙ ap (λ (m : ℕ). drop m l) long)
+    ∙ sym (append-assoc (take a l) v (drop (a + length v) l))
+    ∙ sym (sets-eq v l a (omega arith))

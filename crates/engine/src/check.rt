@@ -1,0 +1,171 @@
+// The checks of a run, all of them before the first sample: 1 to 4 of what is lent, then 5, 6, 7 of each stage along the order.
+use crate::machine::RenderWindow;
+use crate::run::Given;
+use crate::stage::Patch;
+use crate::stage::Stage;
+use magnetron::buffer::Marks;
+use magnetron::check::Verdict;
+use magnetron::check::all_there;
+use magnetron::check::check_prepare;
+use magnetron::check::done;
+use magnetron::check::no_clash;
+use magnetron::check::refusal;
+use magnetron::pool::Pools;
+use microwave::parameter::Found;
+use microwave::parameter::lookup;
+use microwave::parameter::missing;
+ghost use mathlib.Core.Path.{_≡_};
+ghost use mathlib.Core.Bool.{true};
+ghost use mathlib.Core.List.{[]};
+ghost use Prim.Native.Nat.{_≤_};
+ghost use lib.ListN.{drop};
+ghost use Rattle.order.specs.Checks.{verdict};
+ghost use Rattle.magnetron.specs.Pools.{marksIn};
+ghost use Rattle.magnetron.specs.Checks.{verdictOf};
+ghost use Rattle.engine.specs.Run.{planOf, allBelow, holds, orderly, entry, faultOf, fault, turned, judged};
+ghost use Rattle.engine.specs.Code.{returned, planIn, worldIn};
+
+// Whether a number stands in the order from `from` on.
+fn stands_from(order: &[u8], from: usize, k: usize) -> bool
+    ensures { λ r. ⌜ r ≡ holds k (drop from (now (order .entry))) ⌝ }
+{
+    let mut j = from;
+    while j < order.len() {
+        let x = order[j] as usize;
+        if k == x {
+            return true;
+        }
+        j += 1;
+    }
+    false
+}
+
+// Check 3: each number is compared with all after it.
+fn order_ok(order: &[u8], count: usize) -> bool
+    ensures { λ r. ⌜ r ≡ orderly count (now (order .entry)) ⌝ }
+{
+    if 32 < order.len() {
+        return false;
+    }
+    let mut j = 0;
+    while j < order.len() {
+        let k = order[j] as usize;
+        if count <= k {
+            return false;
+        }
+        if stands_from(order, j + 1, k) {
+            return false;
+        }
+        j += 1;
+    }
+    true
+}
+
+// Checks 1 to 4, in that order.
+fn check_entry(
+    given: Given,
+    order: &[u8],
+    internal: &[f64],
+    external: &[f64],
+    zeros: &[f64],
+    rings: &[f64],
+) -> Verdict
+    ensures { λ r. ⌜ r ≡ verdictOf (entry (planIn given []) (now (zeros .entry)) (now (order .entry))
+        (worldIn given (now (internal .entry)) (now (external .entry)) (now (rings .entry)))) ⌝ }
+{
+    let patch = given.patch;
+    let pools = given.pools;
+    let states = given.states;
+    if 32 < patch.count {
+        return refusal(1);
+    }
+    let lent = check_prepare(pools, internal, external, zeros, given.window.buffer_len);
+    if lent.number != 0 {
+        return lent;
+    }
+    if !order_ok(order, patch.count) {
+        return refusal(3);
+    }
+    if !patch.rings_ok(states, rings.len()) {
+        return refusal(4);
+    }
+    done()
+}
+
+// Checks 5, 6, 7 of one stage at its turn: 0, or the number.
+fn stage_fault(
+    stage: Stage,
+    pools: Pools,
+    marks: Marks,
+    window: RenderWindow,
+    values: &[f64],
+) -> usize
+    ensures { λ r. ⌜ r ≡ verdictOf (faultOf pools window (now (values .entry)) stage marks) .number ⌝ }
+{
+    let kind = stage.kind;
+    let output = stage.output;
+    let inputs = kind.inputs();
+    if !all_there(pools, inputs, output) {
+        return 5;
+    }
+    let Found::Number(_) = lookup(stage.level_ask(), values, window.render_window_secs) else {
+        return 6;
+    };
+    if missing(kind.asks(), values, window.render_window_secs) != 0 {
+        return 6;
+    }
+    if !no_clash(window.buffer_len, inputs, output, marks) {
+        return 7;
+    }
+    0
+}
+
+// Checks 5, 6, 7 of each stage along the order.
+fn check_stages(
+    patch: Patch,
+    order: &[u8],
+    pools: Pools,
+    window: RenderWindow,
+    values: &[f64],
+) -> Verdict
+    requires { ⌜ (patch .count ≤ 32) × (allBelow (patch .count) (now order) ≡ true) ⌝ }
+    ensures { λ r. ⌜ r ≡ returned (verdict (fault (planOf patch pools window (now (values .entry)))) (turned (planOf patch pools window (now (values .entry)))) (now (order .entry)) (marksIn pools)) ⌝ }
+{
+    let mut marks = pools.marks();
+    let mut j = 0;
+    while j < order.len() {
+        let k = order[j] as usize;
+        let stage = patch.stages[k];
+        let number = stage_fault(stage, pools, marks, window, values);
+        if number != 0 {
+            return Verdict { number, stage: k };
+        }
+        let output = stage.output;
+        marks = marks.written(output);
+        j += 1;
+    }
+    done()
+}
+
+// All checks, in their order: 0 with stage 32, or the first refusal.
+pub(crate) fn judge(
+    given: Given,
+    order: &[u8],
+    internal: &[f64],
+    external: &[f64],
+    zeros: &[f64],
+    rings: &[f64],
+    values: &[f64],
+) -> Verdict
+    ensures { λ r. ⌜ r ≡ returned (judged (planIn given (now (values .entry))) (now (zeros .entry)) (now (order .entry))
+        (worldIn given (now (internal .entry)) (now (external .entry)) (now (rings .entry)))) ⌝ }
+{
+    let first = check_entry(given, order, internal, external, zeros, rings);
+    if first.number != 0 {
+        return first;
+    }
+    let patch = given.patch;
+    let pools = given.pools;
+    let window = given.window;
+    check_stages(patch, order, pools, window, values)
+}

@@ -1,0 +1,53 @@
+// What a stage remembers from window to window: a record with room for every kind, so that none mismatches.
+use microwave::filter::Biquad;
+use microwave::filter::OnePoleMemory;
+use microwave::oscillator::Phases;
+use microwave::waveguide::StringMemory;
+ghost use mathlib.Core.Path.{_≡_};
+ghost use Rattle.engine.specs.Stage.{newState, newStates};
+
+pub struct State {
+    pub oscillator: Phases,
+    pub one_pole: OnePoleMemory,
+    pub biquad: Biquad,
+    pub waveguide: StringMemory,
+}
+
+// One record for each of 32 stages, by stage number.
+pub struct States {
+    pub stages: [State; 32],
+}
+
+// New, it is all zero.
+pub fn new_state() -> State
+    ensures { λ r. ⌜ r ≡ newState ⌝ }
+{
+    State {
+        oscillator: Phases {
+            phase: 0.0,
+            saved: 0.0,
+        },
+        one_pole: OnePoleMemory {
+            low: 0.0,
+            high: 0.0,
+            last_input: 0.0,
+        },
+        biquad: Biquad {
+            y1: 0.0,
+            y2: 0.0,
+            x1: 0.0,
+            x2: 0.0,
+        },
+        waveguide: StringMemory {
+            low_pass: 0.0,
+            position: 0,
+        },
+    }
+}
+
+pub fn new_states() -> States
+    ensures { λ r. ⌜ r ≡ newStates ⌝ }
+{
+    let state = new_state();
+    States { stages: [state; 32] }
+}
