@@ -1,0 +1,62 @@
+// Words in, words out: reads cases on standard input until it ends, and writes their answers on
+// standard output. FORMAT.md beside this folder defines both.
+mod function;
+mod functions;
+mod run;
+mod stream;
+
+use stream::Buffer;
+use stream::Place;
+
+// The word that ends the answers where a case is refused.
+const REFUSED: u64 = 0xffff_ffff_ffff_ffff;
+
+fn main() {
+    let mut input = [0u8; 65536];
+    let mut output = [0u8; 65536];
+    let mut samples = [0.0; 65536];
+    answer_all(&mut input, &mut output, &mut samples);
+}
+
+// Answers case after case. A proved loop has to end, and nothing says that the input does: so the
+// turns are counted down, from a number that no run uses up.
+fn answer_all(input: &mut Buffer, output: &mut Buffer, samples: &mut [f64]) {
+    let mut place = Place::start();
+    let mut turns = u64::MAX;
+    while turns > 0 {
+        turns -= 1;
+        place = answer_next(place, input, output, samples);
+        if place.over {
+            finish(place, output);
+            return;
+        }
+    }
+}
+
+// Answers one case, by its sort.
+fn answer_next(
+    place: Place,
+    input: &mut Buffer,
+    output: &mut Buffer,
+    samples: &mut [f64],
+) -> Place {
+    let next = place.next_case(input, output);
+    let after = next.place;
+    if after.over {
+        return after;
+    }
+    if next.word == 2 {
+        return functions::answer(after, input, output, samples);
+    }
+    after.refused()
+}
+
+// The last word, where there is one, and what is still to be sent.
+fn finish(place: Place, output: &mut Buffer) {
+    if place.is_refused {
+        let last = place.write(output, REFUSED);
+        last.send(output);
+        return;
+    }
+    place.send(output);
+}

@@ -1,0 +1,166 @@
+// The two streams of words. Standard input is read into one lent buffer, and what goes to standard
+// output is gathered in another, so that one call moves many words.
+ghost use Prim.Native.Nat.{_-_, _≤_};
+ghost use lib.ListN.{length};
+use libc::STDIN_FILENO;
+use libc::STDOUT_FILENO;
+use words::reader::Cursor;
+use words::reader::Taken;
+use words::writer::Stored;
+
+// What is read at once, and what is gathered before it is sent.
+pub type Buffer = [u8; 65536];
+
+// What is unread of the input's buffer, how many bytes of the output's are to be sent, and whether
+// all is over: the input has ended, a write failed, or a case is refused.
+pub struct Place {
+    pub unread: Cursor,
+    pub filled: usize,
+    pub over: bool,
+    pub is_refused: bool,
+}
+
+// A word of the input and the place after it. Where all is over, the word is 0.
+pub struct Next {
+    pub place: Place,
+    pub word: u64,
+}
+
+impl Place {
+    pub fn start() -> Place {
+        Place {
+            unread: Cursor { at: 0, end: 0 },
+            filled: 0,
+            over: false,
+            is_refused: false,
+        }
+    }
+
+    // All is over, and a last word is to say that it ended amiss.
+    pub fn refused(mut self) -> Place {
+        self.over = true;
+        self.is_refused = true;
+        self
+    }
+
+    // The word that a case begins with. The input may end before it.
+    pub fn next_case(self, input: &mut Buffer, output: &Buffer) -> Next {
+        let mut place = self.cleared(output, 8).ready(input, 8);
+        let unread = place.unread;
+        if unread.left() == 0 {
+            place.over = true;
+            return Next { place, word: 0 };
+        }
+        place.next(input)
+    }
+
+    // A word inside a case.
+    pub fn next(self, input: &mut Buffer) -> Next {
+        let mut place = self.ready(input, 8);
+        let unread = place.unread;
+        let Taken::Word(word, rest) = unread.take(input) else {
+            return Next {
+                place: place.refused(),
+                word: 0,
+            };
+        };
+        place.unread = rest;
+        Next { place, word }
+    }
+
+    // All the samples are read.
+    pub fn read_samples(self, input: &mut Buffer, samples: &mut [f64]) -> Place {
+        let mut place = self;
+        let mut count = 0;
+        while count < samples.len() {
+            place = place.ready(input, 8);
+            let unread = place.unread;
+            let filled = unread.fill(input, samples, count);
+            let rest = filled.cursor;
+            place.unread = rest;
+            if filled.next <= count {
+                return place.refused();
+            }
+            count = filled.next;
+        }
+        place
+    }
+
+    // At least `want` bytes are unread, or the input has ended.
+    pub fn ready(mut self, input: &mut Buffer, want: usize) -> Place {
+        let unread = self.unread;
+        if want <= unread.left() {
+            return self;
+        }
+        if self.over {
+            return self;
+        }
+        let refilled = refill(unread, input, want);
+        self.unread = refilled;
+        self
+    }
+
+    // One more word of answers.
+    pub fn write(self, output: &mut Buffer, word: u64) -> Place {
+        let mut place = self.cleared(output, 0);
+        let filled = place.filled;
+        let Stored::Next(next) = words::writer::put(output, filled, word) else {
+            return place.refused();
+        };
+        place.filled = next;
+        place
+    }
+
+    // There is room for a word of answers, and none is held back while the program waits for `want`
+    // bytes.
+    pub fn cleared(self, output: &Buffer, want: usize) -> Place {
+        let unread = self.unread;
+        if unread.left() < want {
+            return self.send(output);
+        }
+        if self.filled <= output.len() - 8 {
+            return self;
+        }
+        self.send(output)
+    }
+
+    // The answers that were gathered are written out.
+    pub fn send(mut self, output: &[u8]) -> Place {
+        let filled = self.filled;
+        self.filled = 0;
+        if output.len() < filled {
+            return self.refused();
+        }
+        if io::write_all(STDOUT_FILENO, &output[0..filled]) {
+            return self;
+        }
+        self.refused()
+    }
+}
+
+// What is unread moves to the front, and more is read behind it, until `want` bytes are there or the
+// input ends.
+fn refill(unread: Cursor, input: &mut [u8], want: usize) -> Cursor {
+    let front = unread.front(input);
+    let mut end = front.end;
+    while end < want {
+        let more = read_behind(input, end);
+        if more == 0 {
+            break;
+        }
+        end += more;
+    }
+    Cursor { at: 0, end }
+}
+
+// Reads once, into the buffer from index `end` on, and answers how many bytes came.
+fn read_behind(input: &mut [u8], end: usize) -> usize
+    ensures { λ r. ⌜ r ≤ length (now (input .exit)) - end ⌝ }
+{
+    if input.len() < end {
+        return 0;
+    }
+    let behind = &mut input[end..];
+    let got = libc::read(STDIN_FILENO, behind);
+    io::count(got, behind)
+}

@@ -1,0 +1,8 @@
+-- Laws that belong to no one function, and the theorem that reading and writing undo each other. Assumes nothing.
+pub mod Nan
+pub mod Eight
+pub mod Front
+pub mod Fill
+pub mod Put
+pub mod Pour
+pub mod Inverse

@@ -1,0 +1,5 @@
+-- What the contracts cite: words and their bytes, numbers as words, and what the reader and the writer do. Assumes nothing.
+pub mod Word
+pub mod Number
+pub mod Reader
+pub mod Writer

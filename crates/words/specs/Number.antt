@@ -1,0 +1,11 @@
+-- "An f64 is its bits; on output every NaN is 7ff8000000000000." Assumes nothing.
+use Prim.Native.Nat.{ℕ}
+use mathlib.Core.Bool.{cond}
+use lib.Ieee.{Float, binary64, ofBits, toBits, isNan}
+
+-- the number whose bits a word is; whatever a NaN's bits are, it is the one NaN
+abbrev pub fromWord : ℕ → Float
+fromWord w = ofBits binary64 w
+
+unfoldable pub toWord : Float → ℕ
+toWord x = cond (isNan x) 0x7ff8_0000_0000_0000 (toBits binary64 x)
