@@ -49,14 +49,22 @@ pub enum Machine {
 fn filter_machine(filter: FilterType, q: Numbers, w: RenderWindow) -> Machine
     ensures { λ r. ⌜ r ≡ filterMachine (machineOf (withNumbers filter (q .first) (q .second)) (w .«sample_width_secs»)) ⌝ }
 {
-    let machine = filter.with_numbers(q.first, q.second).coefficients(w.sample_width_secs);
+    let machine = filter
+        .with_numbers(q.first, q.second)
+        .coefficients(w.sample_width_secs);
     match machine {
         FilterMachine::OnePole(k) => Machine::OnePole(k),
         FilterMachine::Biquad(k) => Machine::Biquad(k),
     }
 }
 
-fn oscillator_machine(o: OscillatorSpec, driven: Driven, q: Numbers, w: RenderWindow, s: State) -> Machine
+fn oscillator_machine(
+    o: OscillatorSpec,
+    driven: Driven,
+    q: Numbers,
+    w: RenderWindow,
+    s: State,
+) -> Machine
     ensures { λ r. ⌜ r ≡ oscillatorMachine o driven q w s ⌝ }
 {
     let oscillator_type = o.oscillator_type;

@@ -101,7 +101,16 @@ fn run_order(
         let at = starts.at[k];
         let end = at + kind.ring_len();
         let ring = &mut rings[at..end];
-        let next = stage.turn(state, pools, marks, window, values, ring, internal, external);
+        let next = stage.turn(
+            state,
+            pools,
+            marks,
+            window,
+            values,
+            ring,
+            internal,
+            external,
+        );
         states.stages[k] = next;
         let output = stage.output;
         marks = marks.written(output);

@@ -49,5 +49,7 @@ pub fn new_states() -> States
     ensures { λ r. ⌜ r ≡ newStates ⌝ }
 {
     let state = new_state();
-    States { stages: [state; 32] }
+    States {
+        stages: [state; 32],
+    }
 }

@@ -96,12 +96,26 @@ impl Stage {
         match output {
             BufferIndex::External(_) => {
                 return self.render(
-                    state, pools, marks, window, values, ring, external, internal,
+                    state,
+                    pools,
+                    marks,
+                    window,
+                    values,
+                    ring,
+                    external,
+                    internal,
                 );
             }
             BufferIndex::Internal(_) => {
                 return self.render(
-                    state, pools, marks, window, values, ring, internal, external,
+                    state,
+                    pools,
+                    marks,
+                    window,
+                    values,
+                    ring,
+                    internal,
+                    external,
                 );
             }
         }
