@@ -9,3 +9,4 @@ pub mod Turns
 pub mod Positions
 pub mod Along
 pub mod Ends
+pub mod Determined

@@ -32,7 +32,7 @@ pub struct RenderWindow {
 }
 
 // Where a stage's loop finds its inputs; zeros where it has fewer than two.
-pub struct Sources {
+pub(crate) struct Sources {
     pub first: Input,
     pub second: Input,
 }

@@ -1,6 +1,7 @@
 // Rings lie end to end in stage-number order in one lent slice. How long each is, where it begins, and check 4.
 use crate::stage::Kind;
 use crate::stage::Patch;
+use crate::stage::Stage;
 use crate::state::State;
 use crate::state::States;
 ghost use mathlib.Core.Path.{_≡_};
@@ -10,16 +11,17 @@ ghost use Rattle.engine.specs.Run.{ringsOk};
 ghost use Rattle.engine.specs.Code.{Bounded, Laid};
 
 // Where the rings of the stages begin, by stage number.
-pub struct Starts {
+pub(crate) struct Starts {
     pub at: [usize; 32],
 }
 
-impl Kind {
+impl Stage {
     // Check 4 of one stage.
     fn ring_fine(self, state: State) -> bool
-        ensures { λ r. ⌜ r ≡ ringFine self state ⌝ }
+        ensures { λ r. ⌜ r ≡ ringFine (self .kind) state ⌝ }
     {
-        let Kind::Waveguide { waveguide, .. } = self else {
+        let kind = self.kind;
+        let Kind::Waveguide { waveguide, .. } = kind else {
             return true;
         };
         if 32767 < waveguide.buffer_size {
@@ -30,10 +32,11 @@ impl Kind {
 
     // How many slots the stage's ring has.
     pub(crate) fn ring_len(self) -> usize
-        requires { ⌜ ringLen self ≤ 32768 ⌝ }
-        ensures { λ r. ⌜ r ≡ ringLen self ⌝ }
+        requires { ⌜ ringLen (self .kind) ≤ 32768 ⌝ }
+        ensures { λ r. ⌜ r ≡ ringLen (self .kind) ⌝ }
     {
-        let Kind::Waveguide { waveguide, .. } = self else {
+        let kind = self.kind;
+        let Kind::Waveguide { waveguide, .. } = kind else {
             return 0;
         };
         waveguide.buffer_size + 1
@@ -51,11 +54,10 @@ impl Patch {
         let mut k = 0;
         while k < count {
             let stage = self.stages[k];
-            let kind = stage.kind;
-            if !kind.ring_fine(states.stages[k]) {
+            if !stage.ring_fine(states.stages[k]) {
                 return false;
             }
-            end += kind.ring_len();
+            end += stage.ring_len();
             k += 1;
         }
         end <= room
@@ -72,9 +74,8 @@ impl Patch {
         let mut k = 0;
         while k < count {
             let stage = self.stages[k];
-            let kind = stage.kind;
             at[k] = end;
-            end += kind.ring_len();
+            end += stage.ring_len();
             k += 1;
         }
         Starts { at }

@@ -21,7 +21,7 @@ pub struct Ran {
 }
 
 // What a run is given by value.
-pub struct Given {
+pub(crate) struct Given {
     pub patch: Patch,
     pub pools: Pools,
     pub states: States,
@@ -97,9 +97,8 @@ fn run_order(
         let k = order[j] as usize;
         let stage = patch.stages[k];
         let state = states.stages[k];
-        let kind = stage.kind;
         let at = starts.at[k];
-        let end = at + kind.ring_len();
+        let end = at + stage.ring_len();
         let ring = &mut rings[at..end];
         let next = stage.turn(
             state,

@@ -3,59 +3,40 @@ use Rattle.engine.proofs.Entries.{too-many, lent-stops, order-stops, ri
 use borrow.Author.Needs.{needs}
 use Rattle.engine.proofs.check.check_entry.Statement.{statement}
 use Rattle.engine.proofs.check.check_entry.Tie as tie
-use Rattle.engine.proofs.check.check_entry.Reads as reads
-use Rattle.engine.proofs.check.check_entry.Lts as lts
-use Rattle.engine.proofs.check.order_ok.Reads as order-ok-reads
-use Rattle.engine.proofs.stage.Patch.rings_ok.Reads as rings-ok-reads
-use Rattle.magnetron.proofs.check.check_prepare.Reads as check-prepare-reads
-use Rattle.magnetron.proofs.check.done.Reads as done-reads
-use Rattle.magnetron.proofs.check.refusal.Reads as refusal-reads
 
--- src/check.rt:80:9
 refusal-requires : tie.Need-refusal-requires
 refusal-requires c κs = search needs
 
--- src/check.rt:80:9
 returns : tie.Need-returns
 returns c = rw ((c .refusal .ensures)) (too-many _ _ _ _ (c .before .if1 .taken))
 
--- src/check.rt:82:9
 check-prepare-requires : tie.Need-check-prepare-requires
 check-prepare-requires c κs = search needs
 
--- src/check.rt:84:9
 returns-2 : tie.Need-returns-2
 returns-2 c = lent-stops _ _ _ _ (c .before .before .before .if1 .left) _ (c .before .before .check-prepare .ensures) (c .if2 .taken)
 
--- src/check.rt:86:9
 order-ok-requires : tie.Need-order-ok-requires
 order-ok-requires c κs = search needs
 
--- src/check.rt:87:9
 refusal-requires-2 : tie.Need-refusal-requires-2
 refusal-requires-2 c κs = search needs
 
--- src/check.rt:87:9
 returns-3 : tie.Need-returns-3
 returns-3 c = rw ((c .refusal2 .ensures)) (order-stops _ _ _ _ (c .before .before .before .before .before .before .if1 .left) _ (c .before .before .before .before .before .check-prepare .ensures) (c .before .before .before .if2 .left) (fails (c .before .before .order-ok .ensures) (c .before .if3 .taken)))
 
--- src/check.rt:89:9
 rings-ok-requires : tie.Need-rings-ok-requires
 rings-ok-requires c κs = search needs
 
--- src/check.rt:90:9
 refusal-requires-3 : tie.Need-refusal-requires-3
 refusal-requires-3 c κs = search needs
 
--- src/check.rt:90:9
 returns-4 : tie.Need-returns-4
 returns-4 c = rw ((c .refusal3 .ensures)) (rings-stop _ _ _ _ (c .before .before .before .before .before .before .before .before .if1 .left) _ (c .before .before .before .before .before .before .before .check-prepare .ensures) (c .before .before .before .before .before .if2 .left) (holds (c .before .before .before .before .order-ok .ensures) (c .before .before .before .if3 .left)) (fails (c .before .before .rings-ok .ensures) (c .before .if4 .taken)))
 
--- src/check.rt:92:5
 done-requires : tie.Need-done-requires
 done-requires c κs = search needs
 
--- src/check.rt:65:1
 returns-5 : tie.Need-returns-5
 returns-5 c = rw ((c .done .ensures)) (all-pass _ _ _ _ (c .before .before .before .before .before .before .before .before .if1 .left) _ (c .before .before .before .before .before .before .before .check-prepare .ensures) (c .before .before .before .before .before .if2 .left) (holds (c .before .before .before .before .order-ok .ensures) (c .before .before .before .if3 .left)) (holds (c .before .before .rings-ok .ensures) (c .before .if4 .left)))
 

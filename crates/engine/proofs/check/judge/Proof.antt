@@ -6,21 +6,14 @@ use Rattle.engine.proofs.Judged.{entry-stops, entry-passed, entry-goes}
 use borrow.Author.Needs.{needs}
 use Rattle.engine.proofs.check.judge.Statement.{statement}
 use Rattle.engine.proofs.check.judge.Tie as tie
-use Rattle.engine.proofs.check.judge.Reads as reads
-use Rattle.engine.proofs.check.judge.Lts as lts
-use Rattle.engine.proofs.check.check_entry.Reads as check-entry-reads
-use Rattle.engine.proofs.check.check_stages.Reads as check-stages-reads
 
--- src/check.rt:163:9
 check-entry-requires : tie.Need-check-entry-requires
 check-entry-requires c κs = search needs
 
--- src/check.rt:165:9
 returns : tie.Need-returns
 unfolding entry
 returns c = entry-stops _ _ _ _ _ (c .before .before .check-entry .ensures) (c .if1 .taken)
 
--- src/check.rt:170:5
 check-stages-requires : tie.Need-check-stages-requires
 unfolding entry
 check-stages-requires c κs =
@@ -30,7 +23,6 @@ check-stages-requires c κs =
     let t = entry-told P (a .zeros .now) (a .order .now) w (entry-passed P (a .zeros .now) (a .order .now) w _ (c .before .before .before .before .before .check-entry .ensures) (c .before .before .before .if1 .left)) in
     (t .few, t .below)
 
--- src/check.rt:151:1
 returns-2 : tie.Need-returns-2
 unfolding entry
 returns-2 c = entry-goes _ _ _ _ _ (c .before .before .before .before .before .before .check-entry .ensures) (c .before .before .before .before .if1 .left) _ (c .check-stages .ensures)

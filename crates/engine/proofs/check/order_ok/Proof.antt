@@ -8,9 +8,6 @@ use Rattle.engine.specs.Run.{allBelow, repeats, orderly}
 use Rattle.engine.proofs.Lists.{rest, last, not-there, twice, in-order}
 use Rattle.engine.proofs.check.order_ok.Statement.{statement}
 use Rattle.engine.proofs.check.order_ok.Tie as tie
-use Rattle.engine.proofs.check.order_ok.Reads as reads
-use Rattle.engine.proofs.check.order_ok.Lts as lts
-use Rattle.engine.proofs.check.stands_from.Reads as stands-from-reads
 
 abbrev Inv-loop : tie.InvT-loop
 Inv-loop order count j₀ j = (allBelow count (drop j order) ≡ allBelow count order) × (repeats (drop j order) ≡ repeats order)
@@ -18,52 +15,40 @@ Inv-loop order count j₀ j = (allBelow count (drop j order) ≡ allBelow count 
 abbrev μ-loop : tie.MeasureT-loop
 μ-loop order count j₀ j = length order - j
 
--- src/check.rt:48:9
 returns : tie.Need-returns Inv-loop μ-loop
 unfolding orderly
 returns c = rw (lt-leb _ _ (c .if1 .taken))
 
--- src/check.rt:51:5
 loop-holds : tie.Need-loop-holds Inv-loop μ-loop
 loop-holds c = (refl, refl)
 
--- src/check.rt:52:17
 shared-slice-read-k : tie.Need-shared-slice-read-k Inv-loop μ-loop
 shared-slice-read-k c = omega arith
 
--- src/check.rt:52:17
 cast-k : tie.Need-cast-k Inv-loop μ-loop
 cast-k c = omega (arith, (c .shared-slice-known2 .given) (c .before .before .loop .j))
 
--- src/check.rt:54:13
 returns-2 : tie.Need-returns-2 Inv-loop μ-loop
 returns-2 c = not-there _ _ (rw (le-ltb _ _ (c .if2 .taken)) at (rest (allBelow (c .before .before .before .before .before .before .args .count)) _ _ (c .before .before .before .loop .inv .0) (c .before .before .loop-test .taken)))
 
--- src/check.rt:56:31
 add-stands-from : tie.Need-add-stands-from Inv-loop μ-loop
 add-stands-from c = omega arith
 
--- src/check.rt:56:12
 stands-from-requires : tie.Need-stands-from-requires Inv-loop μ-loop
 stands-from-requires c κs = search needs
 
--- src/check.rt:57:13
 returns-3 : tie.Need-returns-3 Inv-loop μ-loop
 returns-3 c = twice _ _ (rw (sym (c .before .stands-from .ensures) ∙ (c .if3 .taken)) at (rest repeats _ _ (c .before .before .before .before .before .loop .inv .1) (c .before .before .before .before .loop-test .taken)))
 
--- src/check.rt:59:9
 add-j : tie.Need-add-j Inv-loop μ-loop
 add-j c = omega arith
 
--- src/check.rt:51:5
 loop-less : tie.Need-loop-less Inv-loop μ-loop
 loop-less c = omega arith
 
--- src/check.rt:51:5
 loop-again : tie.Need-loop-again Inv-loop μ-loop
 loop-again c = (rw (lt-ltb _ _ (c .before .before .if2 .left)) at (rest (allBelow (c .before .before .before .before .before .before .before .before .args .count)) _ _ (c .before .before .before .before .before .loop .inv .0) (c .before .before .before .before .loop-test .taken)), rw (sym (c .before .stands-from .ensures) ∙ (c .if3 .left)) at (rest repeats _ _ (c .before .before .before .before .before .loop .inv .1) (c .before .before .before .before .loop-test .taken)))
 
--- src/check.rt:44:1
 returns-4 : tie.Need-returns-4 Inv-loop μ-loop
 returns-4 c = in-order _ _ (c .before .before .if1 .left) (last (allBelow (c .before .before .before .before .args .count)) _ _ (c .before .loop .inv .0) (c .loop-test .left)) (last repeats _ _ (c .before .loop .inv .1) (c .loop-test .left))
 

@@ -7,8 +7,6 @@ use Rattle.engine.specs.Run.{holds}
 use Rattle.engine.proofs.Lists.{rest, last}
 use Rattle.engine.proofs.check.stands_from.Statement.{statement}
 use Rattle.engine.proofs.check.stands_from.Tie as tie
-use Rattle.engine.proofs.check.stands_from.Reads as reads
-use Rattle.engine.proofs.check.stands_from.Lts as lts
 
 abbrev Inv-loop : tie.InvT-loop
 Inv-loop order from k j₀ j = holds k (drop j order) ≡ holds k (drop from order)
@@ -16,35 +14,27 @@ Inv-loop order from k j₀ j = holds k (drop j order) ≡ holds k (drop from ord
 abbrev μ-loop : tie.MeasureT-loop
 μ-loop order from k j₀ j = length order - j
 
--- src/check.rt:33:5
 loop-holds : tie.Need-loop-holds Inv-loop μ-loop
 loop-holds c = refl
 
--- src/check.rt:34:17
 shared-slice-read-x : tie.Need-shared-slice-read-x Inv-loop μ-loop
 shared-slice-read-x c = omega arith
 
--- src/check.rt:34:17
 cast-x : tie.Need-cast-x Inv-loop μ-loop
 cast-x c = omega (arith, (c .shared-slice-known .given) (c .before .before .loop .j))
 
--- src/check.rt:36:13
 returns : tie.Need-returns Inv-loop μ-loop
 returns c = rw (eq-eqb _ _ (c .if1 .taken)) at (rest (holds (c .before .before .before .before .args .k)) _ _ (c .before .before .before .loop .inv) (c .before .before .loop-test .taken))
 
--- src/check.rt:38:9
 add-j : tie.Need-add-j Inv-loop μ-loop
 add-j c = omega arith
 
--- src/check.rt:33:5
 loop-less : tie.Need-loop-less Inv-loop μ-loop
 loop-less c = omega arith
 
--- src/check.rt:33:5
 loop-again : tie.Need-loop-again Inv-loop μ-loop
 loop-again c = rw (ne-eqb _ _ (c .if1 .left)) at (rest (holds (c .before .before .before .before .args .k)) _ _ (c .before .before .before .loop .inv) (c .before .before .loop-test .taken))
 
--- src/check.rt:29:1
 returns-2 : tie.Need-returns-2 Inv-loop μ-loop
 returns-2 c = last (holds (c .before .before .args .k)) _ _ (c .before .loop .inv) (c .loop-test .left)
 

@@ -4,32 +4,22 @@ use Rattle.microwave.specs.declared.filter.Filter.{Filter}
 use borrow.Author.Needs.{needs}
 use Rattle.engine.proofs.machine.filter_machine.Statement.{statement}
 use Rattle.engine.proofs.machine.filter_machine.Tie as tie
-use Rattle.engine.proofs.machine.filter_machine.Reads as reads
-use Rattle.engine.proofs.machine.filter_machine.Lts as lts
-use Rattle.microwave.proofs.filter.Filter.coefficients.Reads as coefficients-reads
-use Rattle.microwave.proofs.filter.FilterType.with_numbers.Reads as with-numbers-reads
 
--- src/machine.rt:38:19
 with-numbers-requires : tie.Need-with-numbers-requires
 with-numbers-requires c κs = search needs
 
--- src/machine.rt:38:9
 coefficients-requires : tie.Need-coefficients-requires
 coefficients-requires c κs = search needs
 
--- src/machine.rt:40:32
 enum-known-machine : tie.Need-enum-known-machine
 enum-known-machine c = search needs
 
--- src/machine.rt:41:31
 enum-known-machine-2 : tie.Need-enum-known-machine-2
 enum-known-machine-2 c = search needs
 
--- src/machine.rt:35:1
 returns : tie.Need-returns
 returns c = simp (sym ((c .before .before .before .coefficients .ensures) ∙ ap (λ (f : Filter). machineOf f ((c .before .before .before .before .before .args .w) .«sample_width_secs»)) ((c .before .before .before .before .with-numbers .ensures))), (c .before .machine .given .1))
 
--- src/machine.rt:35:1
 returns-2 : tie.Need-returns-2
 returns-2 c = simp (sym ((c .before .before .before .coefficients .ensures) ∙ ap (λ (f : Filter). machineOf f ((c .before .before .before .before .before .args .w) .«sample_width_secs»)) ((c .before .before .before .before .with-numbers .ensures))), (c .before .machine2 .given .1))
 

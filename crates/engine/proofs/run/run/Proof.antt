@@ -6,59 +6,41 @@ use Rattle.engine.proofs.Ends.{left-refused, left-done}
 use borrow.Author.Needs.{needs}
 use Rattle.engine.proofs.run.run.Statement.{statement}
 use Rattle.engine.proofs.run.run.Tie as tie
-use Rattle.engine.proofs.run.run.Reads as reads
-use Rattle.engine.proofs.run.run.Lts as lts
-use Rattle.engine.proofs.check.judge.Reads as judge-reads
-use Rattle.engine.proofs.run.refused.Reads as refused-reads
-use Rattle.engine.proofs.run.render_window.Reads as render-window-reads
-use Rattle.engine.proofs.run.run_order.Reads as run-order-reads
 
--- src/run.rt:131:9
 render-window-requires : tie.Need-render-window-requires
 render-window-requires c κs = search needs
 
--- src/run.rt:138:9
 judge-requires : tie.Need-judge-requires
 judge-requires c κs = search needs
 
--- src/run.rt:140:9
 refused-requires : tie.Need-refused-requires
 refused-requires c κs = search needs
 
--- src/run.rt:140:9
 same-length : tie.Need-same-length
 same-length c = search needs
 
--- src/run.rt:140:9
 same-length-2 : tie.Need-same-length-2
 same-length-2 c = search needs
 
--- src/run.rt:140:9
 same-length-3 : tie.Need-same-length-3
 same-length-3 c = search needs
 
--- src/run.rt:140:9
 returns : tie.Need-returns
 unfolding runOf leftBy
 returns c = rw ((c .refused .ensures), ← (c .before .before .before .before .before .before .before .render-window .ensures)) (left-refused _ _ _ _ _ (c .before .before .before .judge .ensures) (c .before .if1 .taken))
 
--- src/run.rt:142:5
 run-order-requires : tie.Need-run-order-requires
 run-order-requires c κs = passed-all _ ((c .before .before .before .before .before .before .before .before .before .before .before .before .before .before .before .before .args .zeros .now)) _ _ (judged-passed _ _ _ _ (ap (λ (v : Verdict). v .number) (sym (c .before .before .before .before .before .judge .ensures)) ∙ (c .before .before .before .if1 .left)))
 
--- src/run.rt:115:1
 same-length-4 : tie.Need-same-length-4
 same-length-4 c = search needs
 
--- src/run.rt:115:1
 same-length-5 : tie.Need-same-length-5
 same-length-5 c = search needs
 
--- src/run.rt:115:1
 same-length-6 : tie.Need-same-length-6
 same-length-6 c = search needs
 
--- src/run.rt:115:1
 returns-2 : tie.Need-returns-2
 unfolding runOf
 returns-2 c = rw (← (c .before .before .before .before .before .before .before .before .before .before .before .before .before .before .before .before .render-window .ensures)) ((c .before .before .before .before .before .before .run-order .ensures) ∙ left-done _ _ _ _ (judged-passed _ _ _ _ (ap (λ (v : Verdict). v .number) (sym (c .before .before .before .before .before .before .before .before .before .before .before .before .judge .ensures)) ∙ (c .before .before .before .before .before .before .before .before .before .before .if1 .left))))

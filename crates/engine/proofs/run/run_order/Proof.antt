@@ -10,17 +10,6 @@ use Rattle.engine.specs.Run.{planOf, worldOf, leftBy, done}
 use Rattle.engine.proofs.Along.{bounded, stage-there, ring-lies, ring-small, part-lies, part-ready, stepped, Along, along-start, along-here, along-more, along-end}
 use Rattle.engine.proofs.run.run_order.Statement.{statement}
 use Rattle.engine.proofs.run.run_order.Tie as tie
-use Rattle.engine.proofs.run.run_order.Reads as reads
-use Rattle.engine.proofs.run.run_order.Lts as lts
-use Rattle.engine.proofs.run.finished.Reads as finished-reads
-use Rattle.engine.proofs.stage.Kind.ring_len.Reads as ring-len-reads
-use Rattle.engine.proofs.stage.Patch.ring_starts.Reads as ring-starts-reads
-use Rattle.engine.proofs.stage.Stage.turn.Reads as turn-reads
-use Rattle.magnetron.proofs.buffer.BufferIndex.stage_activity.Reads as stage-activity-reads
-use Rattle.magnetron.proofs.buffer.Marks.written.Reads as written-reads
-use Rattle.magnetron.proofs.pool.Pools.marks.Reads as marks-reads
-use Rattle.magnetron.proofs.pool.Pools.with_marks.Reads as with-marks-reads
-use Rattle.magnetron.proofs.stage.greater.Reads as greater-reads
 
 abbrev Inv-loop : tie.InvT-loop
 Inv-loop order internal₀ external₀ rings₀ values patch pools window starts marks₀ states₀ activity₀ j₀ internal external rings marks states activity j = Along (planOf patch pools window values) order (worldOf (marksIn pools) (states₀ .stages) internal₀ external₀ rings₀) (worldOf marks (states .stages) internal external rings) activity j
@@ -28,115 +17,89 @@ Inv-loop order internal₀ external₀ rings₀ values patch pools window starts
 abbrev μ-loop : tie.MeasureT-loop
 μ-loop order internal₀ external₀ rings₀ values patch pools window starts marks₀ states₀ activity₀ j₀ internal external rings marks states activity j = length order - j
 
--- src/run.rt:91:18
 ring-starts-requires : tie.Need-ring-starts-requires Inv-loop μ-loop
 ring-starts-requires c κs = bounded ((c .before .before .before .before .before .before .before .before .pre .entered))
 
--- src/run.rt:92:9
 marks-requires : tie.Need-marks-requires Inv-loop μ-loop
 marks-requires c κs = search needs
 
--- src/run.rt:96:5
 loop-holds : tie.Need-loop-holds Inv-loop μ-loop
 loop-holds c = rw ((c .before .marks .ensures)) (along-start (c .before .before .before .before .before .before .before .before .before .before .before .pre))
 
--- src/run.rt:97:17
 shared-slice-read-k : tie.Need-shared-slice-read-k Inv-loop μ-loop
 shared-slice-read-k c = omega arith
 
--- src/run.rt:97:17
 cast-k : tie.Need-cast-k Inv-loop μ-loop
 cast-k c = omega (arith, (c .shared-slice-known3 .given) (c .before .before .loop .j))
 
--- src/run.rt:98:21
 mul-stage : tie.Need-mul-stage Inv-loop μ-loop
 mul-stage c = omega (arith, stage-there (along-here (c .before .before .loop .inv) (c .before .loop-test .taken)), (c .before .before .before .before .before .before .before .before .before .before .before .before .before .before .pre .entered .few))
 
--- src/run.rt:98:21
 element-copy-out-stage : tie.Need-element-copy-out-stage Inv-loop μ-loop
 element-copy-out-stage c = omega (arith, stage-there (along-here (c .before .before .loop .inv) (c .before .loop-test .taken)), (c .before .before .before .before .before .before .before .before .before .before .before .before .before .before .pre .entered .few))
 
--- src/run.rt:99:21
 mul-state : tie.Need-mul-state Inv-loop μ-loop
 mul-state c = omega (arith, stage-there (along-here (c .before .before .before .loop .inv) (c .before .before .loop-test .taken)), (c .before .before .before .before .before .before .before .before .before .before .before .before .before .before .before .pre .entered .few))
 
--- src/run.rt:99:21
 element-copy-out-state : tie.Need-element-copy-out-state Inv-loop μ-loop
 element-copy-out-state c = omega (arith, stage-there (along-here (c .before .before .before .loop .inv) (c .before .before .loop-test .taken)), (c .before .before .before .before .before .before .before .before .before .before .before .before .before .before .before .pre .entered .few))
 
--- src/run.rt:101:18
 mul-at : tie.Need-mul-at Inv-loop μ-loop
 mul-at c = omega (arith, stage-there (along-here (c .before .before .before .before .loop .inv) (c .before .before .before .loop-test .taken)), (c .before .before .before .before .before .before .before .before .before .before .before .before .before .before .before .before .pre .entered .few))
 
--- src/run.rt:101:18
 element-copy-out-at : tie.Need-element-copy-out-at Inv-loop μ-loop
 element-copy-out-at c = omega (arith, stage-there (along-here (c .before .before .before .before .loop .inv) (c .before .before .before .loop-test .taken)), (c .before .before .before .before .before .before .before .before .before .before .before .before .before .before .before .before .pre .entered .few))
 
--- src/run.rt:102:24
 ring-len-requires : tie.Need-ring-len-requires Inv-loop μ-loop
 ring-len-requires c κs = ring-small (along-here (c .before .before .before .before .before .loop .inv) (c .before .before .before .before .loop-test .taken))
 
--- src/run.rt:102:19
 add-end : tie.Need-add-end Inv-loop μ-loop
 add-end c =
     let ok = along-here (c .before .before .before .before .before .before .loop .inv) (c .before .before .before .before .before .loop-test .taken) in
     omega (arith, ring-lies ok, (c .before .before .before .before .before .before .before .before .before .ring-starts .ensures .each) _ (stage-there ok), (c .ring-len .ensures), (c .before .before .before .before .before .before .loop .inv .rings))
 
--- src/run.rt:103:20
 mul-ring : tie.Need-mul-ring Inv-loop μ-loop
 mul-ring c =
     let ok = along-here (c .before .before .before .before .before .before .loop .inv) (c .before .before .before .before .before .loop-test .taken) in
     omega (arith, ring-lies ok, (c .before .before .before .before .before .before .before .before .before .ring-starts .ensures .each) _ (stage-there ok), (c .before .before .before .before .before .before .loop .inv .rings), (c .before .before .before .before .before .before .before .before .before .before .before .before .before .before .before .before .before .before .good .1 .1 .1 .1 .0 .1))
 
--- src/run.rt:103:20
 sub-ring : tie.Need-sub-ring Inv-loop μ-loop
 sub-ring c = search needs
 
--- src/run.rt:103:20
 part-ring-start : tie.Need-part-ring-start Inv-loop μ-loop
 part-ring-start c = search needs
 
--- src/run.rt:103:20
 part-ring-end : tie.Need-part-ring-end Inv-loop μ-loop
 part-ring-end c =
     let ok = along-here (c .before .before .before .before .before .before .loop .inv) (c .before .before .before .before .before .loop-test .taken) in
     part-lies ok _ _ ((c .before .before .before .before .before .before .before .before .before .ring-starts .ensures .each) _ (stage-there ok)) (c .ring-len .ensures)
 
--- src/run.rt:104:13
 turn-requires : tie.Need-turn-requires Inv-loop μ-loop
 turn-requires c κs =
     let ok = along-here (c .before .before .before .before .before .before .before .before .before .loop .inv) (c .before .before .before .before .before .before .before .before .loop-test .taken) in
     part-ready ok _ _ ((c .before .before .before .before .before .before .before .before .before .before .before .before .ring-starts .ensures .each) _ (stage-there ok)) (c .before .before .before .ring-len .ensures)
 
--- src/run.rt:105:9
 mul-next : tie.Need-mul-next Inv-loop μ-loop
 mul-next c = omega (arith, stage-there (along-here (c .before .before .before .before .before .before .before .before .before .before .before .before .before .before .before .before .loop .inv) (c .before .before .before .before .before .before .before .before .before .before .before .before .before .before .before .loop-test .taken)), (c .before .before .before .before .before .before .before .before .before .before .before .before .before .before .before .before .before .before .before .before .before .before .before .before .before .before .before .before .pre .entered .few))
 
--- src/run.rt:105:9
 element-set-from-next : tie.Need-element-set-from-next Inv-loop μ-loop
 element-set-from-next c = omega (arith, stage-there (along-here (c .before .before .before .before .before .before .before .before .before .before .before .before .before .before .before .before .loop .inv) (c .before .before .before .before .before .before .before .before .before .before .before .before .before .before .before .loop-test .taken)), (c .before .before .before .before .before .before .before .before .before .before .before .before .before .before .before .before .before .before .before .before .before .before .before .before .before .before .before .before .pre .entered .few))
 
--- src/run.rt:107:9
 written-requires : tie.Need-written-requires Inv-loop μ-loop
 written-requires c κs = search needs
 
--- src/run.rt:108:38
 stage-activity-requires : tie.Need-stage-activity-requires Inv-loop μ-loop
 stage-activity-requires c κs = search needs
 
--- src/run.rt:108:9
 greater-requires : tie.Need-greater-requires Inv-loop μ-loop
 greater-requires c κs = search needs
 
--- src/run.rt:109:9
 add-j : tie.Need-add-j Inv-loop μ-loop
 add-j c = omega (arith, (c .before .before .before .before .before .before .before .before .before .before .before .before .before .before .before .before .before .before .loop-test .taken), (c .before .before .before .before .before .before .before .before .before .before .before .before .before .before .before .before .before .before .before .before .before .before .before .before .before .before .before .before .before .before .before .pre .entered .short))
 
--- src/run.rt:96:5
 loop-less : tie.Need-loop-less Inv-loop μ-loop
 loop-less c = omega (arith, (c .before .before .before .before .before .before .before .before .before .before .before .before .before .before .before .before .before .before .loop-test .taken))
 
--- src/run.rt:96:5
 loop-again : tie.Need-loop-again Inv-loop μ-loop
 loop-again c =
     let ok = along-here (c .before .before .before .before .before .before .before .before .before .before .before .before .before .before .before .before .before .before .before .loop .inv) (c .before .before .before .before .before .before .before .before .before .before .before .before .before .before .before .before .before .before .loop-test .taken) in
@@ -144,27 +107,21 @@ loop-again c =
     (stepped ok _ _ ((c .before .before .before .before .before .before .before .before .before .before .before .before .before .before .before .before .before .before .before .before .before .before .ring-starts .ensures .each) _ (stage-there ok)) (c .before .before .before .before .before .before .before .before .before .before .before .before .before .ring-len .ensures) ((c .before .before .before .before .before .before .before .before .before .turn .last .1 .1 .1 .1 .1 .1 .0)) ((c .before .before .before .before .before .before .before .before .before .turn .kept .1 .1 .1 .1 .1 .1 .0)) (c .before .before .written .ensures) (c .before .before .before .before .before .before .before .before .before .turn .ensures))
     ((c .greater .ensures) ∙ ap (greaterOf (c .before .before .before .before .before .before .before .before .before .before .before .before .before .before .before .before .before .before .before .loop .activity)) (c .before .stage-activity .ensures))
 
--- src/run.rt:111:24
 with-marks-requires : tie.Need-with-marks-requires Inv-loop μ-loop
 with-marks-requires c κs = search needs
 
--- src/run.rt:111:5
 finished-requires : tie.Need-finished-requires Inv-loop μ-loop
 finished-requires c κs = search needs
 
--- src/run.rt:74:1
 same-length : tie.Need-same-length Inv-loop μ-loop
 same-length c = (c .before .before .before .loop .inv .internal)
 
--- src/run.rt:74:1
 same-length-2 : tie.Need-same-length-2 Inv-loop μ-loop
 same-length-2 c = (c .before .before .before .loop .inv .external)
 
--- src/run.rt:74:1
 same-length-3 : tie.Need-same-length-3 Inv-loop μ-loop
 same-length-3 c = (c .before .before .before .loop .inv .rings)
 
--- src/run.rt:74:1
 returns : tie.Need-returns Inv-loop μ-loop
 unfolding leftBy
 returns c =

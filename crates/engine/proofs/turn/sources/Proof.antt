@@ -2,43 +2,31 @@ use Rattle.magnetron.proofs.Putting.{only, former, latter}
 use borrow.Author.Needs.{needs}
 use Rattle.engine.proofs.turn.sources.Statement.{statement}
 use Rattle.engine.proofs.turn.sources.Tie as tie
-use Rattle.engine.proofs.turn.sources.Reads as reads
-use Rattle.engine.proofs.turn.sources.Lts as lts
-use Rattle.magnetron.proofs.input.source.Reads as source-reads
 
--- src/turn.rt:30:20
 enum-told : tie.Need-enum-told
 enum-told c = search needs
 
--- src/turn.rt:33:21
 enum-known-inputs : tie.Need-enum-known-inputs
 enum-known-inputs c = search needs
 
--- src/turn.rt:34:20
 source-requires : tie.Need-source-requires
 source-requires c κs = (c .before .before .before .pre .each) _ (only ((c .before .inputs .given .1)))
 
--- src/turn.rt:37:21
 enum-known-inputs-2 : tie.Need-enum-known-inputs-2
 enum-known-inputs-2 c = search needs
 
--- src/turn.rt:38:20
 source-requires-2 : tie.Need-source-requires-2
 source-requires-2 c κs = (c .before .before .before .pre .each) _ (former ((c .before .inputs2 .given .1)))
 
--- src/turn.rt:39:21
 source-requires-3 : tie.Need-source-requires-3
 source-requires-3 c κs = (c .before .before .before .before .pre .each) _ (latter ((c .before .before .inputs2 .given .1)))
 
--- src/turn.rt:24:1
 returns : tie.Need-returns
 returns c = simp ((c .enum-told .given .1))
 
--- src/turn.rt:24:1
 returns-2 : tie.Need-returns-2
 returns-2 c = simp ((c .before .before .inputs .given .1), (c .source .ensures))
 
--- src/turn.rt:24:1
 returns-3 : tie.Need-returns-3
 returns-3 c = simp ((c .before .before .before .inputs2 .given .1), (c .before .source2 .ensures), (c .source3 .ensures))
 

@@ -3,95 +3,67 @@ use Rattle.engine.proofs.Lens.{lifted, phases, onePole, biquad, string,
 use borrow.Author.Needs.{needs}
 use Rattle.engine.proofs.machine.Machine.play.Statement.{statement}
 use Rattle.engine.proofs.machine.Machine.play.Tie as tie
-use Rattle.engine.proofs.machine.Machine.play.Reads as reads
-use Rattle.engine.proofs.machine.Machine.play.Lts as lts
-use Rattle.microwave.proofs.window.biquad_window.Reads as biquad-window-reads
-use Rattle.microwave.proofs.window.one_pole_window.Reads as one-pole-window-reads
-use Rattle.microwave.proofs.window.oscillator_window.Reads as oscillator-window-reads
-use Rattle.microwave.proofs.window.plain_window.Reads as plain-window-reads
-use Rattle.microwave.proofs.window.string_window.Reads as string-window-reads
 
--- src/machine.rt:164:28
 enum-known-self : tie.Need-enum-known-self
 enum-known-self c = search needs
 
--- src/machine.rt:165:17
 plain-window-requires : tie.Need-plain-window-requires
 plain-window-requires c κs = search needs
 
--- src/machine.rt:166:17
 same-length : tie.Need-same-length
 same-length c = search needs
 
--- src/machine.rt:166:17
 returns : tie.Need-returns
 returns c = rw ((c .before .before .before .before .before .self .given .1)) (plain-stepped (c .before .before .before .before .before .before .before .before .before .before .args .inputs) ((c .before .before .before .before .before .before .before .before .before .before .args .other .now)) (c .before .before .plain-window .ensures))
 
--- src/machine.rt:168:33
 enum-known-self-2 : tie.Need-enum-known-self-2
 enum-known-self-2 c = search needs
 
--- src/machine.rt:170:21
 oscillator-window-requires : tie.Need-oscillator-window-requires
 oscillator-window-requires c κs = search needs
 
--- src/machine.rt:172:17
 same-length-2 : tie.Need-same-length-2
 same-length-2 c = search needs
 
--- src/machine.rt:172:17
 returns-2 : tie.Need-returns-2
 returns-2 c = rw ((c .before .before .before .before .before .before .self2 .given .1)) (lifted phases (c .before .before .before .before .before .before .before .before .before .before .before .args .inputs) ((c .before .before .before .before .before .before .before .before .before .before .before .args .other .now)) refl refl (c .before .before .oscillator-window .ensures))
 
--- src/machine.rt:174:30
 enum-known-self-3 : tie.Need-enum-known-self-3
 enum-known-self-3 c = search needs
 
--- src/machine.rt:176:21
 one-pole-window-requires : tie.Need-one-pole-window-requires
 one-pole-window-requires c κs = search needs
 
--- src/machine.rt:178:17
 same-length-3 : tie.Need-same-length-3
 same-length-3 c = search needs
 
--- src/machine.rt:178:17
 returns-3 : tie.Need-returns-3
 returns-3 c = rw ((c .before .before .before .before .before .before .self3 .given .1)) (lifted onePole (c .before .before .before .before .before .before .before .before .before .before .before .args .inputs) ((c .before .before .before .before .before .before .before .before .before .before .before .args .other .now)) refl refl (c .before .before .one-pole-window .ensures))
 
--- src/machine.rt:180:29
 enum-known-self-4 : tie.Need-enum-known-self-4
 enum-known-self-4 c = search needs
 
--- src/machine.rt:182:21
 biquad-window-requires : tie.Need-biquad-window-requires
 biquad-window-requires c κs = search needs
 
--- src/machine.rt:184:17
 same-length-4 : tie.Need-same-length-4
 same-length-4 c = search needs
 
--- src/machine.rt:184:17
 returns-4 : tie.Need-returns-4
 returns-4 c = rw ((c .before .before .before .before .before .before .self4 .given .1)) (lifted biquad (c .before .before .before .before .before .before .before .before .before .before .before .args .inputs) ((c .before .before .before .before .before .before .before .before .before .before .before .args .other .now)) refl refl (c .before .before .biquad-window .ensures))
 
--- src/machine.rt:186:32
 enum-known-self-5 : tie.Need-enum-known-self-5
 enum-known-self-5 c = search needs
 
--- src/machine.rt:188:21
 string-window-requires : tie.Need-string-window-requires
 string-window-requires c κs = (((c .before .before .before .before .before .before .before .before .before .pre .lies), (c .before .before .before .before .before .before .before .before .before .pre .first)), rw ((c .before .before .before .before .self5 .given .1)) at ((c .before .before .before .before .before .before .before .before .before .pre .ring)))
 
--- src/machine.rt:190:17
 same-length-5 : tie.Need-same-length-5
 same-length-5 c = search needs
 
--- src/machine.rt:190:17
 same-length-6 : tie.Need-same-length-6
 same-length-6 c = search needs
 
--- src/machine.rt:190:17
 returns-5 : tie.Need-returns-5
 returns-5 c = rw ((c .before .before .before .before .before .before .before .before .before .self5 .given .1)) (lifted string (c .before .before .before .before .before .before .before .before .before .before .before .before .before .before .args .inputs) ((c .before .before .before .before .before .before .before .before .before .before .before .before .before .before .args .other .now)) refl refl (c .before .before .before .before .string-window .ensures))
 

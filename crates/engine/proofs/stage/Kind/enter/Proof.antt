@@ -1,79 +1,58 @@
 use borrow.Author.Needs.{needs}
 use Rattle.engine.proofs.stage.Kind.enter.Statement.{statement}
 use Rattle.engine.proofs.stage.Kind.enter.Tie as tie
-use Rattle.engine.proofs.stage.Kind.enter.Reads as reads
-use Rattle.engine.proofs.stage.Kind.enter.Lts as lts
-use Rattle.engine.proofs.state.State.saving.Reads as saving-reads
 
--- src/machine.rt:120:34
 enum-told : tie.Need-enum-told
 enum-told c = search needs
 
--- src/machine.rt:121:34
 enum-told-2 : tie.Need-enum-told-2
 enum-told-2 c = search needs
 
--- src/machine.rt:122:34
 enum-told-3 : tie.Need-enum-told-3
 enum-told-3 c = search needs
 
--- src/machine.rt:123:36
 enum-told-4 : tie.Need-enum-told-4
 enum-told-4 c = search needs
 
--- src/machine.rt:124:40
 enum-told-5 : tie.Need-enum-told-5
 enum-told-5 c = search needs
 
--- src/machine.rt:124:40
 saving-requires : tie.Need-saving-requires
 saving-requires c κs = search needs
 
--- src/machine.rt:125:43
 enum-told-6 : tie.Need-enum-told-6
 enum-told-6 c = search needs
 
--- src/machine.rt:125:43
 saving-requires-2 : tie.Need-saving-requires-2
 saving-requires-2 c κs = search needs
 
--- src/machine.rt:126:39
 enum-told-7 : tie.Need-enum-told-7
 enum-told-7 c = search needs
 
--- src/machine.rt:127:43
 enum-told-8 : tie.Need-enum-told-8
 enum-told-8 c = search needs
 
--- src/machine.rt:116:5
 returns : tie.Need-returns
 returns c = simp ((c .enum-told .given .1))
 
--- src/machine.rt:116:5
 returns-2 : tie.Need-returns-2
 returns-2 c = simp ((c .enum-told2 .given .1))
 
--- src/machine.rt:116:5
 returns-3 : tie.Need-returns-3
 returns-3 c = simp ((c .enum-told3 .given .1))
 
--- src/machine.rt:116:5
 returns-4 : tie.Need-returns-4
 returns-4 c = simp ((c .enum-told4 .given .1))
 
--- src/machine.rt:116:5
 returns-5 : tie.Need-returns-5
 returns-5 c = simp ((c .before .enum-told5 .given .1), (c .saving .ensures))
 
--- src/machine.rt:116:5
 returns-6 : tie.Need-returns-6
 returns-6 c = simp ((c .before .enum-told6 .given .1), (c .saving2 .ensures))
 
--- src/machine.rt:116:5
 returns-7 : tie.Need-returns-7
 returns-7 c = simp ((c .enum-told7 .given .1))
 
--- src/machine.rt:116:5
 returns-8 : tie.Need-returns-8
 returns-8 c = simp ((c .enum-told8 .given .1))
 

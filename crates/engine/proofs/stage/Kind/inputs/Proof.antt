@@ -1,70 +1,52 @@
 use borrow.Author.Needs.{needs}
 use Rattle.engine.proofs.stage.Kind.inputs.Statement.{statement}
 use Rattle.engine.proofs.stage.Kind.inputs.Tie as tie
-use Rattle.engine.proofs.stage.Kind.inputs.Reads as reads
-use Rattle.engine.proofs.stage.Kind.inputs.Lts as lts
 
--- src/stage.rt:89:26
 enum-known-self : tie.Need-enum-known-self
 enum-known-self c = search needs
 
--- src/stage.rt:90:26
 enum-known-self-2 : tie.Need-enum-known-self-2
 enum-known-self-2 c = search needs
 
--- src/stage.rt:91:26
 enum-known-self-3 : tie.Need-enum-known-self-3
 enum-known-self-3 c = search needs
 
--- src/stage.rt:92:28
 enum-known-self-4 : tie.Need-enum-known-self-4
 enum-known-self-4 c = search needs
 
--- src/stage.rt:93:40
 enum-told : tie.Need-enum-told
 enum-told c = search needs
 
--- src/stage.rt:94:35
 enum-known-self-5 : tie.Need-enum-known-self-5
 enum-known-self-5 c = search needs
 
--- src/stage.rt:95:31
 enum-known-self-6 : tie.Need-enum-known-self-6
 enum-known-self-6 c = search needs
 
--- src/stage.rt:96:35
 enum-known-self-7 : tie.Need-enum-known-self-7
 enum-known-self-7 c = search needs
 
--- src/stage.rt:85:5
 returns : tie.Need-returns
 returns c = simp ((c .before .self .given .1))
 
--- src/stage.rt:85:5
 returns-2 : tie.Need-returns-2
 returns-2 c = simp ((c .before .self2 .given .1))
 
--- src/stage.rt:85:5
 returns-3 : tie.Need-returns-3
 returns-3 c = simp ((c .before .self3 .given .1))
 
--- src/stage.rt:85:5
 returns-4 : tie.Need-returns-4
 returns-4 c = simp ((c .before .self4 .given .1))
 
--- src/stage.rt:85:5
 returns-5 : tie.Need-returns-5
 returns-5 c = search needs
 
--- src/stage.rt:85:5
 returns-6 : tie.Need-returns-6
 returns-6 c = simp ((c .before .self5 .given .1))
 
--- src/stage.rt:85:5
 returns-7 : tie.Need-returns-7
 returns-7 c = simp ((c .before .self6 .given .1))
 
--- src/stage.rt:85:5
 returns-8 : tie.Need-returns-8
 returns-8 c = simp ((c .before .self7 .given .1))
 

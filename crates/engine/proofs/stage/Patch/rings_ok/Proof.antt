@@ -8,10 +8,6 @@ use Rattle.engine.specs.Run.{allTo, lenIn, fineIn, ringsOk}
 use Rattle.engine.proofs.EndToEnd.{fine-at, all-none, all-more, all-fails, Summed, summed-start, summed-more, rings-fit}
 use Rattle.engine.proofs.stage.Patch.rings_ok.Statement.{statement}
 use Rattle.engine.proofs.stage.Patch.rings_ok.Tie as tie
-use Rattle.engine.proofs.stage.Patch.rings_ok.Reads as reads
-use Rattle.engine.proofs.stage.Patch.rings_ok.Lts as lts
-use Rattle.engine.proofs.stage.Kind.ring_fine.Reads as ring-fine-reads
-use Rattle.engine.proofs.stage.Kind.ring_len.Reads as ring-len-reads
 
 abbrev Inv-loop : tie.InvT-loop
 Inv-loop room self states count end₀ k₀ end k = (Summed (lenIn self) count k end) × (allTo k (fineIn self (states .stages)) ≡ true)
@@ -19,56 +15,43 @@ Inv-loop room self states count end₀ k₀ end k = (Summed (lenIn self) count k
 abbrev μ-loop : tie.MeasureT-loop
 μ-loop room self states count end₀ k₀ end k = count - k
 
--- src/rings.rt:52:9
 loop-holds : tie.Need-loop-holds Inv-loop μ-loop
 loop-holds c = (summed-start _ _, all-none _)
 
--- src/rings.rt:53:25
 mul-stage : tie.Need-mul-stage Inv-loop μ-loop
 mul-stage c = omega (arith, (c .before .before .pre))
 
--- src/rings.rt:53:25
 element-copy-out-stage : tie.Need-element-copy-out-stage Inv-loop μ-loop
 element-copy-out-stage c = omega (arith, (c .before .before .pre))
 
--- src/rings.rt:55:32
 mul-ring-fine : tie.Need-mul-ring-fine Inv-loop μ-loop
 mul-ring-fine c = omega (arith, (c .before .before .before .pre))
 
--- src/rings.rt:55:32
 element-copy-out-ring-fine : tie.Need-element-copy-out-ring-fine Inv-loop μ-loop
 element-copy-out-ring-fine c = omega (arith, (c .before .before .before .pre))
 
--- src/rings.rt:55:17
 ring-fine-requires : tie.Need-ring-fine-requires Inv-loop μ-loop
 ring-fine-requires c κs = search needs
 
--- src/rings.rt:56:17
 returns : tie.Need-returns Inv-loop μ-loop
 unfolding ringsOk
 returns c = rw (all-fails (fineIn (c .before .before .before .before .before .before .args .t1) ((c .before .before .before .before .before .before .args .t2 .stages))) _ _ (c .before .before .before .before .loop-test .taken) (fails (c .before .ring-fine .ensures) (c .if1 .taken)))
 
--- src/rings.rt:58:20
 ring-len-requires : tie.Need-ring-len-requires Inv-loop μ-loop
 ring-len-requires c κs = fine-at (c .before .before .before .before .before .before .args .t1) ((c .before .before .before .before .before .before .args .t2 .stages)) (c .before .before .before .before .before .loop .k) (holds (c .before .ring-fine .ensures) (c .if1 .left))
 
--- src/rings.rt:58:13
 add-end : tie.Need-add-end Inv-loop μ-loop
 add-end c = omega (arith, (c .before .before .before .before .before .before .loop .inv .0 .small), (c .ring-len .ensures), fine-at (c .before .before .before .before .before .before .before .args .t1) ((c .before .before .before .before .before .before .before .args .t2 .stages)) (c .before .before .before .before .before .before .loop .k) (holds (c .before .before .ring-fine .ensures) (c .before .if1 .left)), (c .before .before .before .before .before .loop-test .taken), (c .before .before .before .before .before .before .before .pre))
 
--- src/rings.rt:59:13
 add-k : tie.Need-add-k Inv-loop μ-loop
 add-k c = omega arith
 
--- src/rings.rt:52:9
 loop-less : tie.Need-loop-less Inv-loop μ-loop
 loop-less c = omega arith
 
--- src/rings.rt:52:9
 loop-again : tie.Need-loop-again Inv-loop μ-loop
 loop-again c = (summed-more _ _ _ _ _ (c .before .before .before .before .before .before .loop .inv .0) (c .before .before .before .before .before .loop-test .taken) (c .ring-len .ensures) (fine-at (c .before .before .before .before .before .before .before .args .t1) ((c .before .before .before .before .before .before .before .args .t2 .stages)) (c .before .before .before .before .before .before .loop .k) (holds (c .before .before .ring-fine .ensures) (c .before .if1 .left))), all-more _ _ (c .before .before .before .before .before .before .loop .inv .1) (holds (c .before .before .ring-fine .ensures) (c .before .if1 .left)))
 
--- src/rings.rt:45:5
 returns-2 : tie.Need-returns-2 Inv-loop μ-loop
 returns-2 c = rings-fit _ _ _ _ _ (c .before .loop .inv .0) (c .before .loop .inv .1) (c .loop-test .left)
 

@@ -2,55 +2,40 @@ use Rattle.engine.proofs.Turns.{ready-at, turned-at}
 use borrow.Author.Needs.{needs}
 use Rattle.engine.proofs.stage.Stage.turn.Statement.{statement}
 use Rattle.engine.proofs.stage.Stage.turn.Tie as tie
-use Rattle.engine.proofs.stage.Stage.turn.Reads as reads
-use Rattle.engine.proofs.stage.Stage.turn.Lts as lts
-use Rattle.engine.proofs.stage.Stage.render.Reads as render-reads
 
--- src/turn.rt:100:58
 enum-told : tie.Need-enum-told
 enum-told c = search needs
 
--- src/turn.rt:99:17
 render-requires : tie.Need-render-requires
 render-requires c κs = ready-at ((c .before .before .before .enum-told .given .1)) ((c .before .before .before .before .before .before .before .before .before .args .internal .now)) ((c .before .before .before .before .before .before .before .before .before .args .external .now)) (c .before .before .before .before .before .before .before .before .before .pre)
 
--- src/turn.rt:99:17
 same-length : tie.Need-same-length
 same-length c = search needs
 
--- src/turn.rt:99:17
 same-length-2 : tie.Need-same-length-2
 same-length-2 c = search needs
 
--- src/turn.rt:99:17
 same-length-3 : tie.Need-same-length-3
 same-length-3 c = search needs
 
--- src/turn.rt:99:17
 returns : tie.Need-returns
 returns c = turned-at ((c .before .before .before .before .before .before .before .before .enum-told .given .1)) _ _ _ ((c .before .before .before .before .render .ensures))
 
--- src/turn.rt:105:58
 enum-told-2 : tie.Need-enum-told-2
 enum-told-2 c = search needs
 
--- src/turn.rt:104:17
 render-requires-2 : tie.Need-render-requires-2
 render-requires-2 c κs = ready-at ((c .before .before .before .enum-told2 .given .1)) ((c .before .before .before .before .before .before .before .before .before .args .internal .now)) ((c .before .before .before .before .before .before .before .before .before .args .external .now)) (c .before .before .before .before .before .before .before .before .before .pre)
 
--- src/turn.rt:104:17
 same-length-4 : tie.Need-same-length-4
 same-length-4 c = search needs
 
--- src/turn.rt:104:17
 same-length-5 : tie.Need-same-length-5
 same-length-5 c = search needs
 
--- src/turn.rt:104:17
 same-length-6 : tie.Need-same-length-6
 same-length-6 c = search needs
 
--- src/turn.rt:104:17
 returns-2 : tie.Need-returns-2
 returns-2 c = turned-at ((c .before .before .before .before .before .before .before .before .enum-told2 .given .1)) _ _ _ ((c .before .before .before .before .render2 .ensures))
 
