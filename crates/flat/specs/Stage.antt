@@ -1,0 +1,131 @@
+-- Which stage plain numbers name. Tables are read from number 0 on; past its end the last entry stands, and `namedOf` lets no such number through.
+-- Assumes nothing.
+use Prim.Native.Nat.{ℕ, _-_, _%_, _/_}
+use mathlib.Core.Bool.{Bool, true, cond, _&&_}
+use mathlib.Core.List.{List, [], _∷_}
+use lib.Dec.{ltb, eqb}
+use lib.ListN.{getD}
+use Rattle.magnetron.specs.declared.buffer.BufferIndex.{BufferIndex}
+use Rattle.magnetron.specs.declared.buffer.BufferIndex.the-variants.{Internal, External}
+use Rattle.microwave.specs.declared.parameter.Parameter.{Parameter}
+use Rattle.microwave.specs.declared.parameter.Parameter.the-variants.{Fixed, Slot, WindowSeconds, Absent}
+use Rattle.microwave.specs.declared.filter.FilterType.{FilterType}
+use Rattle.microwave.specs.declared.filter.FilterType.the-variants as filter
+use Rattle.microwave.specs.declared.oscillator.OscillatorType.{OscillatorType}
+use Rattle.microwave.specs.declared.oscillator.OscillatorType.the-variants.{Sin, Sin3, Triangle, Square, Sawtooth}
+use Rattle.microwave.specs.declared.oscillator.Modulation.{Modulation}
+use Rattle.microwave.specs.declared.oscillator.Modulation.the-variants.{ByPhase, ByFrequency}
+use Rattle.microwave.specs.declared.oscillator.OscillatorSpec.{OscillatorSpec}
+use Rattle.microwave.specs.declared.waveguide.Reflectance.{Reflectance}
+use Rattle.microwave.specs.declared.waveguide.Reflectance.the-variants.{Positive, Negative}
+use Rattle.microwave.specs.declared.waveguide.WaveguideSpec.{WaveguideSpec}
+use Rattle.engine.specs.declared.stage.Kind.{Kind}
+use Rattle.engine.specs.declared.stage.Kind.the-variants as kind
+use Rattle.engine.specs.declared.stage.Stage.{Stage}
+use Rattle.flat.specs.declared.form.Form.{Form}
+use Rattle.flat.specs.declared.form.Formed.{Formed}
+use Rattle.flat.specs.declared.form.Formed.the-variants as formed
+use Rattle.flat.specs.declared.stage.FlatParameter.{FlatParameter}
+use Rattle.flat.specs.declared.stage.FlatStage.{FlatStage}
+use Rattle.flat.specs.declared.stage.Named.{Named}
+use Rattle.flat.specs.declared.stage.Named.the-variants as named
+use Rattle.flat.specs.Form.{formedOf}
+
+-- twice its index, plus one if external
+abbrev pub bufferOf : ℕ → BufferIndex
+bufferOf number = cond (eqb (number % 2) 0) (Internal (number / 2)) (External (number / 2))
+
+unfoldable pub parameterOf : FlatParameter → Parameter
+parameterOf p = getD (Absent ∷ Fixed (p .number) ∷ Slot (p .slot) ∷ []) (p .mark) WindowSeconds
+
+-- ---- choices, in source order
+
+unfoldable pub waveformOf : ℕ → OscillatorType
+waveformOf number = getD (Sin ∷ Sin3 ∷ Triangle ∷ Square ∷ []) number Sawtooth
+
+unfoldable pub modulationOf : ℕ → Modulation
+modulationOf number = getD (ByPhase ∷ []) number ByFrequency
+
+unfoldable pub reflectanceOf : ℕ → Reflectance
+reflectanceOf number = getD (Positive ∷ []) number Negative
+
+-- ---- kinds
+
+-- the filters, numbered from 3 on as filter.rs lists them
+unfoldable pub filterOf : ℕ → Parameter → Parameter → FilterType
+filterOf kind a b =
+    getD
+    (filter.LowPass a
+    ∷ filter.LowPass2 a b
+    ∷ filter.HighPass a
+    ∷ filter.HighPass2 a b
+    ∷ filter.BandPass a b
+    ∷ filter.Notch a b
+    ∷ [])
+    (kind - 3)
+    (filter.AllPass a b)
+
+abbrev pub oscillatorOf : FlatStage → OscillatorSpec
+oscillatorOf f = record { «oscillator_type» = waveformOf (f .choice); frequency = parameterOf (f .first); phase = parameterOf (f .second) }
+
+abbrev pub waveguideOf : FlatStage → WaveguideSpec
+waveguideOf f =
+    record {
+      «buffer_size» = f .«buffer_size»;
+      frequency = parameterOf (f .first);
+      cutoff = parameterOf (f .second);
+      feedback = parameterOf (f .third);
+      reflectance = reflectanceOf (f .choice);
+    }
+
+-- the stage's filter
+abbrev pub filtered : FlatStage → Kind
+filtered f = kind.Filter (bufferOf (f .«first_input»)) (filterOf (f .kind) (parameterOf (f .first)) (parameterOf (f .second)))
+
+unfoldable pub kinds : FlatStage → List Kind
+kinds f =
+    kind.Pass (bufferOf (f .«first_input»))
+    ∷ kind.Pow3 (bufferOf (f .«first_input»))
+    ∷ kind.Clip (bufferOf (f .«first_input»)) (parameterOf (f .first))
+    ∷ filtered f
+    ∷ filtered f
+    ∷ filtered f
+    ∷ filtered f
+    ∷ filtered f
+    ∷ filtered f
+    ∷ filtered f
+    ∷ kind.Oscillator (oscillatorOf f)
+    ∷ kind.ModOscillator (bufferOf (f .«first_input»)) (oscillatorOf f) (modulationOf (f .modulation))
+    ∷ kind.Waveguide (bufferOf (f .«first_input»)) (waveguideOf f)
+    ∷ []
+
+unfoldable pub kindOf : FlatStage → Kind
+kindOf f = getD (kinds f) (f .kind) (kind.RingModulator (bufferOf (f .«first_input»)) (bufferOf (f .«second_input»)))
+
+-- ---- which numbers are known
+
+abbrev pub chosenOf : ℕ → ℕ → Bool
+chosenOf limit choice = cond (eqb limit 0) true (ltb choice limit)
+
+abbrev pub markedOf : Bool → FlatParameter → Bool
+markedOf has p = cond has (ltb (p .mark) 4) true
+
+-- what the kind has is known; what it does not have is not looked at
+abbrev pub knownOf : Form → FlatStage → Bool
+knownOf form f =
+    chosenOf (form .choices) (f .choice)
+    && chosenOf (form .modulations) (f .modulation)
+    && markedOf true (f .«out_level»)
+    && markedOf (ltb 0 (form .parameters)) (f .first)
+    && markedOf (ltb 1 (form .parameters)) (f .second)
+    && markedOf (ltb 2 (form .parameters)) (f .third)
+
+abbrev pub stageFrom : FlatStage → Stage
+stageFrom f = record { kind = kindOf f; output = bufferOf (f .output); «out_level» = parameterOf (f .«out_level») }
+
+unfoldable pub namedBy : Formed → FlatStage → Named
+namedBy (formed.Form form) f = cond (knownOf form f) (named.Stage (stageFrom f)) named.Unknown
+namedBy formed.Unknown f = named.Unknown
+
+unfoldable pub namedOf : FlatStage → Named
+namedOf f = namedBy (formedOf (f .kind)) f

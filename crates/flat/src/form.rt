@@ -1,0 +1,46 @@
+// What a kind of stage is made of beside its output and its out_level, by the kind's number:
+// Pass, Pow3, Clip, the seven filters as filter.rs lists them, plain oscillator, modulated oscillator, waveguide, RingModulator.
+ghost use mathlib.Core.Path.{_≡_};
+ghost use Rattle.flat.specs.Form.{formedOf};
+
+const KINDS: usize = 14;
+
+const CHOICES: [u8; 14] = [0, 0, 0, 0, 0, 0, 0, 0, 0, 0, 5, 5, 2, 0];
+
+const MODULATIONS: [u8; 14] = [0, 0, 0, 0, 0, 0, 0, 0, 0, 0, 0, 2, 0, 0];
+
+const SIZES: [u8; 14] = [0, 0, 0, 0, 0, 0, 0, 0, 0, 0, 0, 0, 1, 0];
+
+const INPUTS: [u8; 14] = [1, 1, 1, 1, 1, 1, 1, 1, 1, 1, 0, 1, 1, 2];
+
+const PARAMETERS: [u8; 14] = [0, 0, 1, 1, 2, 1, 2, 2, 2, 2, 2, 2, 3, 0];
+
+// How many waveforms or reflectances, and how many modulations, there are to choose from: 0 where nothing is chosen.
+// How many sizes, inputs and parameters the kind has.
+pub struct Form {
+    pub choices: u8,
+    pub modulations: u8,
+    pub sizes: u8,
+    pub inputs: u8,
+    pub parameters: u8,
+}
+
+pub enum Formed {
+    Form(Form),
+    Unknown,
+}
+
+pub fn form_of(kind: usize) -> Formed
+    ensures { λ r. ⌜ r ≡ formedOf kind ⌝ }
+{
+    if KINDS <= kind {
+        return Formed::Unknown;
+    }
+    Formed::Form(Form {
+        choices: CHOICES[kind],
+        modulations: MODULATIONS[kind],
+        sizes: SIZES[kind],
+        inputs: INPUTS[kind],
+        parameters: PARAMETERS[kind],
+    })
+}

@@ -1,0 +1,260 @@
+// The stage that plain numbers name.
+use crate::form::Form;
+use crate::form::Formed;
+use crate::form::form_of;
+use engine::stage::Kind;
+use engine::stage::Stage;
+use magnetron::buffer::BufferIndex;
+use microwave::filter::FilterType;
+use microwave::oscillator::Modulation;
+use microwave::oscillator::OscillatorSpec;
+use microwave::oscillator::OscillatorType;
+use microwave::parameter::Parameter;
+use microwave::waveguide::Reflectance;
+use microwave::waveguide::WaveguideSpec;
+ghost use mathlib.Core.Path.{_≡_};
+ghost use Rattle.flat.specs.Stage.{bufferOf, parameterOf, waveformOf, modulationOf, reflectanceOf, filterOf, oscillatorOf, waveguideOf, kindOf, chosenOf, markedOf, knownOf, namedOf};
+
+// A parameter: 0 absent, 1 the number, 2 the slot, 3 the window's seconds.
+#[repr(C)]
+pub struct FlatParameter {
+    pub mark: usize,
+    pub slot: usize,
+    pub number: f64,
+}
+
+// A stage. A buffer is twice its index, plus one if external. What the kind does not have is not looked at.
+#[repr(C)]
+pub struct FlatStage {
+    pub kind: usize,
+    pub choice: usize,
+    pub modulation: usize,
+    pub buffer_size: usize,
+    pub first_input: usize,
+    pub second_input: usize,
+    pub output: usize,
+    pub out_level: FlatParameter,
+    pub first: FlatParameter,
+    pub second: FlatParameter,
+    pub third: FlatParameter,
+}
+
+pub enum Named {
+    Stage(Stage),
+    Unknown,
+}
+
+fn buffer_of(number: usize) -> BufferIndex
+    ensures { λ r. ⌜ r ≡ bufferOf number ⌝ }
+{
+    if number % 2 == 0 {
+        return BufferIndex::Internal(number / 2);
+    }
+    BufferIndex::External(number / 2)
+}
+
+fn parameter_of(p: FlatParameter) -> Parameter
+    ensures { λ r. ⌜ r ≡ parameterOf p ⌝ }
+{
+    let mark = p.mark;
+    match mark {
+        0 => Parameter::Absent,
+        1 => Parameter::Fixed(p.number),
+        2 => Parameter::Slot(p.slot),
+        _ => Parameter::WindowSeconds,
+    }
+}
+
+fn waveform_of(number: usize) -> OscillatorType
+    ensures { λ r. ⌜ r ≡ waveformOf number ⌝ }
+{
+    match number {
+        0 => OscillatorType::Sin,
+        1 => OscillatorType::Sin3,
+        2 => OscillatorType::Triangle,
+        3 => OscillatorType::Square,
+        _ => OscillatorType::Sawtooth,
+    }
+}
+
+fn modulation_of(number: usize) -> Modulation
+    ensures { λ r. ⌜ r ≡ modulationOf number ⌝ }
+{
+    match number {
+        0 => Modulation::ByPhase,
+        _ => Modulation::ByFrequency,
+    }
+}
+
+fn reflectance_of(number: usize) -> Reflectance
+    ensures { λ r. ⌜ r ≡ reflectanceOf number ⌝ }
+{
+    match number {
+        0 => Reflectance::Positive,
+        _ => Reflectance::Negative,
+    }
+}
+
+// The filters are numbered from 3 on.
+fn filter_of(kind: usize, a: Parameter, b: Parameter) -> FilterType
+    ensures { λ r. ⌜ r ≡ filterOf kind a b ⌝ }
+{
+    if kind < 3 {
+        return FilterType::LowPass { cutoff: a };
+    }
+    let number = kind - 3;
+    match number {
+        0 => FilterType::LowPass { cutoff: a },
+        1 => FilterType::LowPass2 {
+            resonance: a,
+            quality: b,
+        },
+        2 => FilterType::HighPass { cutoff: a },
+        3 => FilterType::HighPass2 {
+            resonance: a,
+            quality: b,
+        },
+        4 => FilterType::BandPass {
+            center: a,
+            quality: b,
+        },
+        5 => FilterType::Notch {
+            center: a,
+            quality: b,
+        },
+        _ => FilterType::AllPass {
+            corner: a,
+            quality: b,
+        },
+    }
+}
+
+fn oscillator_of(flat: FlatStage) -> OscillatorSpec
+    ensures { λ r. ⌜ r ≡ oscillatorOf flat ⌝ }
+{
+    let first = flat.first;
+    let second = flat.second;
+    OscillatorSpec {
+        oscillator_type: waveform_of(flat.choice),
+        frequency: parameter_of(first),
+        phase: parameter_of(second),
+    }
+}
+
+fn waveguide_of(flat: FlatStage) -> WaveguideSpec
+    ensures { λ r. ⌜ r ≡ waveguideOf flat ⌝ }
+{
+    let first = flat.first;
+    let second = flat.second;
+    let third = flat.third;
+    WaveguideSpec {
+        buffer_size: flat.buffer_size,
+        frequency: parameter_of(first),
+        cutoff: parameter_of(second),
+        feedback: parameter_of(third),
+        reflectance: reflectance_of(flat.choice),
+    }
+}
+
+fn kind_of(flat: FlatStage) -> Kind
+    ensures { λ r. ⌜ r ≡ kindOf flat ⌝ }
+{
+    let kind = flat.kind;
+    let first = flat.first;
+    let second = flat.second;
+    let limit = parameter_of(first);
+    let input = buffer_of(flat.first_input);
+    let filter = filter_of(kind, limit, parameter_of(second));
+    let oscillator = oscillator_of(flat);
+    match kind {
+        0 => Kind::Pass { input },
+        1 => Kind::Pow3 { input },
+        2 => Kind::Clip { input, limit },
+        3 => Kind::Filter { input, filter },
+        4 => Kind::Filter { input, filter },
+        5 => Kind::Filter { input, filter },
+        6 => Kind::Filter { input, filter },
+        7 => Kind::Filter { input, filter },
+        8 => Kind::Filter { input, filter },
+        9 => Kind::Filter { input, filter },
+        10 => Kind::Oscillator { oscillator },
+        11 => Kind::ModOscillator {
+            input,
+            oscillator,
+            modulation: modulation_of(flat.modulation),
+        },
+        12 => Kind::Waveguide {
+            input,
+            waveguide: waveguide_of(flat),
+        },
+        _ => Kind::RingModulator {
+            first: input,
+            second: buffer_of(flat.second_input),
+        },
+    }
+}
+
+// A choice among `limit`, or no choice to make.
+fn chosen(limit: u8, choice: usize) -> bool
+    ensures { λ r. ⌜ r ≡ chosenOf limit choice ⌝ }
+{
+    if limit == 0 {
+        return true;
+    }
+    choice < limit as usize
+}
+
+// A mark that says something, or a parameter that the kind does not have.
+fn marked(has: bool, p: FlatParameter) -> bool
+    ensures { λ r. ⌜ r ≡ markedOf has p ⌝ }
+{
+    if has {
+        return p.mark < 4;
+    }
+    true
+}
+
+// Kind, choices and marks are all known.
+fn known(form: Form, flat: FlatStage) -> bool
+    ensures { λ r. ⌜ r ≡ knownOf form flat ⌝ }
+{
+    let out_level = flat.out_level;
+    let first = flat.first;
+    let second = flat.second;
+    let third = flat.third;
+    let count = form.parameters;
+    if !chosen(form.choices, flat.choice) {
+        return false;
+    }
+    if !chosen(form.modulations, flat.modulation) {
+        return false;
+    }
+    if !marked(true, out_level) {
+        return false;
+    }
+    if !marked(count > 0, first) {
+        return false;
+    }
+    if !marked(count > 1, second) {
+        return false;
+    }
+    marked(count > 2, third)
+}
+
+// The stage that the numbers name; Unknown where there is no such kind, choice or mark.
+pub fn stage_of(flat: FlatStage) -> Named
+    ensures { λ r. ⌜ r ≡ namedOf flat ⌝ }
+{
+    let Formed::Form(form) = form_of(flat.kind) else {
+        return Named::Unknown;
+    };
+    if !known(form, flat) {
+        return Named::Unknown;
+    }
+    let out_level = flat.out_level;
+    Named::Stage(Stage {
+        kind: kind_of(flat),
+        output: buffer_of(flat.output),
+        out_level: parameter_of(out_level),
+    })
+}
