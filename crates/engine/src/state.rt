@@ -6,6 +6,7 @@ use microwave::waveguide::StringMemory;
 ghost use mathlib.Core.Path.{_≡_};
 ghost use Rattle.engine.specs.Stage.{newState, newStates};
 
+#[repr(C)]
 pub struct State {
     pub oscillator: Phases,
     pub one_pole: OnePoleMemory,
@@ -14,6 +15,7 @@ pub struct State {
 }
 
 // One record for each of 32 stages, by stage number.
+#[repr(C)]
 pub struct States {
     pub stages: [State; 32],
 }

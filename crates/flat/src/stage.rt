@@ -44,7 +44,8 @@ pub enum Named {
     Unknown,
 }
 
-fn buffer_of(number: usize) -> BufferIndex
+// Twice its index, plus one if external.
+pub fn buffer_of(number: usize) -> BufferIndex
     ensures { λ r. ⌜ r ≡ bufferOf number ⌝ }
 {
     if number % 2 == 0 {

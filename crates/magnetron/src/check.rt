@@ -13,6 +13,7 @@ ghost use Rattle.magnetron.specs.Inputs.{listOf};
 ghost use Rattle.magnetron.specs.Single.{lent, prepareFault};
 
 // 0 with stage 32, or a refusal's number and its stage.
+#[repr(C)]
 pub struct Verdict {
     pub number: usize,
     pub stage: usize,

@@ -15,6 +15,7 @@ ghost use Rattle.magnetron.specs.Pools.{marksIn, marked, remarked, baseO
 ghost use Rattle.magnetron.specs.Single.{lent, newPoolOf, preparedOf};
 
 // The record of a pool, whose samples are a lent slice of count times capacity.
+#[repr(C)]
 pub struct Pool {
     pub count: usize,
     pub capacity: usize,
@@ -22,17 +23,20 @@ pub struct Pool {
 }
 
 // An engine's own buffers and those of an outer one, and the flag that asks stages to start anew.
+#[repr(C)]
 pub struct Pools {
     pub internal: Pool,
     pub external: Pool,
     pub reset: bool,
 }
 
+#[repr(C)]
 pub struct Made {
     pub verdict: Verdict,
     pub pool: Pool,
 }
 
+#[repr(C)]
 pub struct Prepared {
     pub verdict: Verdict,
     pub pools: Pools,

@@ -116,6 +116,7 @@ pub enum OnePole {
 }
 
 // The low-pass's last output; the high-pass's last output and last input.
+#[repr(C)]
 pub struct OnePoleMemory {
     pub low: f64,
     pub high: f64,
@@ -178,6 +179,7 @@ pub struct Coefficients {
 }
 
 // The last two outputs and the last two inputs.
+#[repr(C)]
 pub struct Biquad {
     pub y1: f64,
     pub y2: f64,

@@ -36,6 +36,7 @@ pub enum Driven {
 }
 
 // What an oscillator remembers: where its wave stands, and the phase parameter of its last window.
+#[repr(C)]
 pub struct Phases {
     pub phase: f64,
     pub saved: f64,

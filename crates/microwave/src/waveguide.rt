@@ -29,6 +29,7 @@ pub struct WaveguideSpec {
 }
 
 // What a string remembers beside its ring.
+#[repr(C)]
 pub struct StringMemory {
     pub low_pass: f64,
     pub position: usize,

@@ -2,5 +2,5 @@
 pub mod Ring
 pub mod Delay
 pub mod Comb
-pub mod Listed
+pub mod Edges
 pub mod Determined

@@ -8,6 +8,7 @@ ghost use Rattle.numbers.specs.Outcome.{outcome};
 ghost use Rattle.util.specs.DelayLine.{inRing, nextSlot, delayed, delayedBy, delayedFract, delayAt, readingOf, advanced, heard, written, muted};
 
 // The slot that is written: a place of a ring where it is below the ring's length.
+#[repr(C)]
 pub struct Cursor {
     pub position: usize,
 }
