@@ -4,6 +4,7 @@ use contract.Lifetimes.{Lfts}
 use denote.Ref.{now}
 use Rattle.numbers.specs.Outcome.{Determined, by-definition, outcome}
 use Rattle.magnetron.specs.Single.{left}
+use Rattle.magnetron.proofs.stage.rank.Reads as rank
 use Rattle.magnetron.proofs.stage.greater.Reads as greater
 use Rattle.magnetron.proofs.buffer.BufferIndex.stage_activity.Reads as stage-activity
 use Rattle.magnetron.proofs.buffer.same_buffer.Reads as same-buffer
@@ -28,11 +29,15 @@ use Rattle.magnetron.proofs.check.check_prepare.Reads as check-prepare
 use Rattle.magnetron.proofs.input.source.Reads as source
 use Rattle.magnetron.proofs.input.fetch.Reads as fetch
 use Rattle.magnetron.proofs.write.mix.Reads as mix
+use Rattle.magnetron.proofs.write.write_1.Reads as write-1
 use Rattle.magnetron.proofs.write.read_0_write_1.Reads as read-0-write-1
 use Rattle.magnetron.proofs.write.read_1_write_1.Reads as read-1-write-1
 use Rattle.magnetron.proofs.write.read_2_write_1.Reads as read-2-write-1
 use Rattle.magnetron.proofs.read.check_read.Reads as check-read
 use Rattle.magnetron.proofs.read.read.Reads as read
+
+pub rank-determined : (κs : Lfts 0) → Determined (rank.Post κs) (λ r s. r)
+rank-determined κs = by-definition _ (λ a r s p. p)
 
 pub greater-determined : (κs : Lfts 0) → Determined (greater.Post κs) (λ r s. r)
 greater-determined κs = by-definition _ (λ a r s p. p)
@@ -105,6 +110,9 @@ fetch-determined κs = by-definition _ (λ a r s p. p)
 
 pub mix-determined : (κs : Lfts 0) → Determined (mix.Post κs) (λ r s. r)
 mix-determined κs = by-definition _ (λ a r s p. p)
+
+pub write-1-determined : (κs : Lfts 4) → Determined (write-1.Post κs) (λ r s. left r (now (s .1 .0)) (now (s .1 .1 .0)))
+write-1-determined κs = by-definition _ (λ a r s p. p)
 
 pub read-0-write-1-determined : (κs : Lfts 4) → Determined (read-0-write-1.Post κs) (λ r s. left r (now (s .1 .0)) (now (s .1 .1 .0)))
 read-0-write-1-determined κs = by-definition _ (λ a r s p. p)

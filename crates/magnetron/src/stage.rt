@@ -11,7 +11,7 @@ pub enum StageActivity {
 }
 
 // The number by which two activities are compared.
-fn rank(a: StageActivity) -> u8
+pub fn rank(a: StageActivity) -> u8
     ensures { λ r. ⌜ r ≡ rankOf a ⌝ }
 {
     match a {

@@ -219,7 +219,7 @@ fn written(output: BufferIndex, pools: Pools) -> Wrote
 }
 
 // A single write of what is read of `inputs`, or of the lent values where nothing is. A refusal changes nothing.
-fn write_1(
+pub fn write_1(
     pools: Pools,
     internal: &mut [f64],
     external: &mut [f64],

@@ -1,0 +1,111 @@
+// The run, from a patch of plain numbers.
+use crate::patch::FlatPatch;
+use crate::patch::patch_of;
+use engine::run::Ran;
+use engine::state::States;
+use magnetron::pool::Pools;
+use magnetron::write::Answer;
+ghost use mathlib.Core.Path.{_≡_};
+ghost use Rattle.engine.specs.Stage.{newStates};
+ghost use Rattle.host.specs.Host.{answerOf, ranOf, unknownRan, left, flatRunOf};
+
+// 0 with stage 32, or a refusal's number with its stage; the activity from 0: Exhausted, Internal, External, Observer.
+#[repr(C)]
+pub struct FlatAnswer {
+    pub number: usize,
+    pub stage: usize,
+    pub activity: u8,
+}
+
+#[repr(C)]
+pub struct FlatRan {
+    pub answer: FlatAnswer,
+    pub pools: Pools,
+    pub states: States,
+}
+
+pub(crate) fn answer_of(answer: Answer) -> FlatAnswer
+    ensures { λ r. ⌜ r ≡ answerOf answer ⌝ }
+{
+    let activity = answer.activity;
+    FlatAnswer {
+        number: answer.number,
+        stage: answer.stage,
+        activity: magnetron::stage::rank(activity),
+    }
+}
+
+fn ran_of(ran: Ran) -> FlatRan
+    ensures { λ r. ⌜ r ≡ ranOf ran ⌝ }
+{
+    let answer = ran.answer;
+    let pools = ran.pools;
+    let states = ran.states;
+    FlatRan {
+        answer: answer_of(answer),
+        pools,
+        states,
+    }
+}
+
+// The refusal of a stage whose numbers name none.
+fn unknown_ran(stage: usize, pools: Pools, states: States) -> FlatRan
+    ensures { λ r. ⌜ r ≡ unknownRan stage pools states ⌝ }
+{
+    let answer = FlatAnswer {
+        number: 22,
+        stage,
+        activity: 0,
+    };
+    FlatRan {
+        answer,
+        pools,
+        states,
+    }
+}
+
+// New states: all zero.
+#[no_mangle]
+pub extern "C" fn grynnadot_new_states() -> States
+    ensures { λ r. ⌜ r ≡ newStates ⌝ }
+{
+    engine::state::new_states()
+}
+
+// A run of n samples, each `width` seconds wide. Where a stage's numbers name none, 22 and that stage. A refusal changes nothing.
+#[no_mangle]
+pub extern "C" fn grynnadot_run(
+    patch: FlatPatch,
+    order: &[u8],
+    pools: Pools,
+    states: States,
+    n: usize,
+    width: f64,
+    internal: &mut [f64],
+    external: &mut [f64],
+    zeros: &[f64],
+    rings: &mut [f64],
+    values: &[f64],
+) -> FlatRan
+    ensures { λ r. ⌜ left r (now (internal .exit)) (now (external .exit)) (now (rings .exit))
+        ≡ flatRunOf patch (now (order .entry)) pools states n width (now (internal .entry)) (now (external .entry)) (now (zeros .entry)) (now (rings .entry)) (now (values .entry)) ⌝ }
+{
+    let named = patch_of(patch);
+    if named.unknown != 32 {
+        return unknown_ran(named.unknown, pools, states);
+    }
+    let known = named.patch;
+    ran_of(engine::run::run(
+        known,
+        order,
+        pools,
+        states,
+        n,
+        width,
+        internal,
+        external,
+        zeros,
+        rings,
+        values,
+    ))
+}
