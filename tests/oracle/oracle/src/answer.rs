@@ -60,6 +60,7 @@ impl Answer {
             Err(refusal) => (refusal.number, refusal.stage),
         };
         self.words.extend([number, stage]);
+        self.tally.outcomes[number as usize] += 1;
     }
 
     pub fn activity(&mut self, activity: StageActivity) {

@@ -99,6 +99,12 @@ impl Case {
         Ok(Some(case))
     }
 
+    /// The case that these words are.
+    pub fn of_words(words: &[u64]) -> Option<Self> {
+        let bytes: Vec<u8> = words.iter().flat_map(|word| word.to_le_bytes()).collect();
+        Self::read(&mut Reader(&bytes[..])).ok()?
+    }
+
     /// The case as a stream of its own.
     pub fn bytes(&self) -> Vec<u8> {
         self.written().expect("a case that was made can be written")

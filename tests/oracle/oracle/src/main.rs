@@ -3,18 +3,24 @@
 mod answer;
 mod case;
 mod compare;
+mod differences;
 mod laid;
 mod listed;
 mod measure;
 mod options;
+mod orders;
+mod panics;
 mod parts;
 mod pools;
+mod program;
 mod random;
 mod random_pools;
 mod refusals;
+mod refused;
 mod session;
 mod show;
 mod shrink;
+mod small;
 mod tally;
 mod values;
 mod words;
@@ -27,18 +33,32 @@ use std::io::BufWriter;
 use std::io::Write;
 use std::path::PathBuf;
 use std::process::ExitCode;
+use std::time::Instant;
 
 use answer::Answer;
 use case::Case;
+use compare::Compare;
+use compare::Report;
 use options::Options;
+use program::Program;
 use words::Reader;
 
 const USAGE: &str = "oracle answer < CASES > ANSWERS
 oracle generate --sort S --seed N --cases K [--refused] [--most BYTES] > CASES
-oracle listed > CASES
+oracle listed [--only NUMBER] > CASES
 oracle show < CASES
 oracle measure-sine
-oracle compare [--replay PROGRAM] [--cases N] [--seed N] [--sort S] [--failing FILE]";
+oracle compare ASKED [--cases N] [--seed N] [--sort S]
+oracle differences ASKED [--inputs]
+oracle refused ASKED [--sort S]
+oracle orders ASKED [--cases N] [--seed N]
+where ASKED is [--replay PROGRAM] [--start PROGRAM] [--failing FILE]";
+
+/// The options that say which program is asked, how it is started, and where a case is kept that it answers otherwise.
+const ASKED: [&str; 3] = ["replay", "start", "failing"];
+
+/// How many cases are asked of each sort if nothing else is said.
+const CASES: u64 = 20_000;
 
 fn main() -> ExitCode {
     match run() {
@@ -57,10 +77,13 @@ fn run() -> Result<bool, Box<dyn Error>> {
     match command.as_str() {
         "answer" => answer().map(|()| true),
         "generate" => generate(Options::new(words, &["sort", "seed", "cases", "most"], &["refused"])?).map(|()| true),
-        "listed" => print(&listed::cases()?).map(|()| true),
+        "listed" => listed(Options::new(words, &["only"], &[])?).map(|()| true),
         "show" => show_all().map(|()| true),
         "measure-sine" => Ok(measure::measure_sine()),
-        "compare" => compare(Options::new(words, &["replay", "cases", "seed", "sort", "failing"], &[])?),
+        "compare" => compare(Options::new(words, &[&ASKED[..], &["cases", "seed", "sort"]].concat(), &[])?),
+        "differences" => differences(Options::new(words, &ASKED, &["inputs"])?),
+        "orders" => orders(Options::new(words, &[&ASKED[..], &["cases", "seed"]].concat(), &[])?),
+        "refused" => refused(Options::new(words, &[&ASKED[..], &["sort"]].concat(), &[])?),
         _ => Err(USAGE.into()),
     }
 }
@@ -107,7 +130,10 @@ fn sort(options: &Options) -> Result<u64, String> {
     if case::SORTS.contains(&sort) { Ok(sort) } else { Err(format!("there is no sort {sort}")) }
 }
 
-fn print(cases: &[Case]) -> Result<(), Box<dyn Error>> {
+/// Document 01's listed cases, or those of one number.
+fn listed(options: Options) -> Result<(), Box<dyn Error>> {
+    let only = options.value("only", String::new())?;
+    let cases = listed::cases(&only)?;
     let bytes: Vec<u8> = cases.iter().flat_map(Case::bytes).collect();
     Ok(io::stdout().write_all(&bytes)?)
 }
@@ -120,17 +146,42 @@ fn show_all() -> Result<(), Box<dyn Error>> {
     Ok(())
 }
 
+/// The program that is held against the Rust.
+fn asked(options: &Options) -> Result<Compare, Box<dyn Error>> {
+    let start = options.value("start", PathBuf::new())?;
+    let program = Program {
+        path: options.value("replay", PathBuf::from("target/bin/replay"))?,
+        start: (!start.as_os_str().is_empty()).then_some(start),
+    };
+    Ok(Compare { program, failing: options.value("failing", PathBuf::from("target/oracle/failing"))? })
+}
+
 fn compare(options: Options) -> Result<bool, Box<dyn Error>> {
+    let begin = Instant::now();
     let sorts = match options.given("sort") {
         true => vec![sort(&options)?],
         false => case::SORTS.to_vec(),
     };
-    let compare = compare::Compare {
-        replay: options.value("replay", PathBuf::from("target/bin/replay"))?,
-        cases: options.value("cases", 20_000)?,
-        seed: options.value("seed", 1)?,
-        failing: options.value("failing", PathBuf::from("target/oracle/failing"))?,
-        sorts,
-    };
-    compare.run()
+    let (seed, count) = (options.value("seed", 1)?, options.value("cases", CASES)?);
+    let mut report = Report::default();
+    let cases = compare::cases(sorts, seed, count)?;
+    let different = asked(&options)?.first_different(cases, &mut report)?;
+    let seconds = begin.elapsed().as_secs_f64();
+    let same = format!("all the same: seed {seed}, {count} random cases of each sort, {seconds:.0} s");
+    println!("{report}\n{}", different.as_ref().unwrap_or(&same));
+    Ok(different.is_none())
+}
+
+fn refused(options: Options) -> Result<bool, Box<dyn Error>> {
+    let only = if options.given("sort") { Some(sort(&options)?) } else { None };
+    refused::run(&asked(&options)?, only)
+}
+
+fn differences(options: Options) -> Result<bool, Box<dyn Error>> {
+    differences::run(&asked(&options)?.program, options.given("inputs"))
+}
+
+fn orders(options: Options) -> Result<bool, Box<dyn Error>> {
+    let patches = options.value("cases", CASES)? / orders::SESSIONS;
+    orders::run(&asked(&options)?.program, patches, options.value("seed", 1)?)
 }

@@ -2,12 +2,14 @@
 
 use std::collections::BTreeMap;
 
-/// Samples by their class, things in their circumstances, and crossings of two circumstances.
+/// Samples by their class, things in their circumstances, and crossings of several circumstances.
 #[derive(Default)]
 pub struct Tally {
     samples: [u64; CLASSES.len()],
     pub met: BTreeMap<(&'static str, &'static str), u64>,
-    pub crossed: BTreeMap<(&'static str, &'static str, &'static str), u64>,
+    pub crossed: BTreeMap<[&'static str; 4], u64>,
+    /// How many outcomes there were of each number.
+    pub outcomes: [u64; 8],
     /// How many samples stages have put out.
     pub rendered: u64,
 }
@@ -19,8 +21,8 @@ impl Tally {
         *self.met.entry((thing, circumstance)).or_default() += 1;
     }
 
-    pub fn cross(&mut self, thing: &'static str, one: &'static str, other: &'static str) {
-        *self.crossed.entry((thing, one, other)).or_default() += 1;
+    pub fn cross(&mut self, circumstances: [&'static str; 4]) {
+        *self.crossed.entry(circumstances).or_default() += 1;
     }
 
     pub fn sample(&mut self, sample: f64) {
@@ -42,6 +44,7 @@ impl Tally {
         self.samples.iter_mut().zip(other.samples).for_each(|(sum, count)| *sum += count);
         other.met.into_iter().for_each(|(thing, count)| *self.met.entry(thing).or_default() += count);
         other.crossed.into_iter().for_each(|(thing, count)| *self.crossed.entry(thing).or_default() += count);
+        self.outcomes.iter_mut().zip(other.outcomes).for_each(|(sum, count)| *sum += count);
         self.rendered += other.rendered;
     }
 }

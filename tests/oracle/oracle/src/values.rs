@@ -21,6 +21,23 @@ pub enum Role {
 }
 
 impl Role {
+    pub fn name(self) -> &'static str {
+        match self {
+            Role::OutLevel => "out_level",
+            Role::Limit => "limit",
+            Role::Cutoff => "cutoff",
+            Role::Resonance => "resonance",
+            Role::Quality => "quality",
+            Role::Frequency | Role::StringFrequency => "frequency",
+            Role::Phase => "phase",
+            Role::Feedback => "feedback",
+            Role::Sample => "sample",
+            Role::Width => "width",
+            Role::Fraction => "fraction",
+            Role::Turn => "turn",
+        }
+    }
+
     /// "Only out_level and phase may be absent."
     pub fn may_be_absent(self) -> bool {
         matches!(self, Role::OutLevel | Role::Phase)

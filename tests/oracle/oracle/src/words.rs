@@ -14,6 +14,36 @@ pub trait Tape {
     fn word(&mut self, word: &mut u64) -> Passed;
 }
 
+/// Whole numbers and f64 numbers, each as its word.
+pub trait Word {
+    fn word(self) -> u64;
+}
+
+impl Word for i32 {
+    fn word(self) -> u64 {
+        self as u64
+    }
+}
+
+impl Word for u64 {
+    fn word(self) -> u64 {
+        self
+    }
+}
+
+impl Word for f64 {
+    fn word(self) -> u64 {
+        self.to_bits()
+    }
+}
+
+/// A list of words.
+macro_rules! words {
+    ($($word:expr),* $(,)?) => { vec![$($crate::words::Word::word($word)),*] };
+}
+
+pub(crate) use words;
+
 /// What passes along a tape behind a count.
 pub trait Pass {
     fn pass(&mut self, tape: &mut dyn Tape) -> Passed;
@@ -116,6 +146,17 @@ impl<R: Read> Tape for Reader<R> {
 /// A tape that is written.
 #[derive(Default)]
 pub struct Writer(pub Vec<u8>);
+
+impl Writer {
+    pub fn words(&self) -> impl Iterator<Item = u64> {
+        of_bytes(&self.0)
+    }
+}
+
+/// The whole words that some bytes hold.
+pub fn of_bytes(bytes: &[u8]) -> impl Iterator<Item = u64> {
+    bytes.as_chunks().0.iter().map(|bytes| u64::from_le_bytes(*bytes))
+}
 
 impl Tape for Writer {
     fn word(&mut self, word: &mut u64) -> Passed {

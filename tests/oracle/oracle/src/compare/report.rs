@@ -5,21 +5,29 @@ use std::fmt;
 
 use crate::answer::Answer;
 use crate::session::CIRCUMSTANCES;
+use crate::session::PARAMETERS;
+use crate::session::WINDOWS;
 use crate::session::kind;
+use crate::session::kind::KINDS;
 use crate::tally::Tally;
 
 #[derive(Default)]
 pub struct Report {
     /// Cases and words of answers, by sort.
     sorts: BTreeMap<u64, (u64, u64)>,
-    tally: Tally,
+    pub tally: Tally,
 }
 
 impl Report {
-    pub fn add(&mut self, sort: u64, cases: usize, answer: Answer) {
-        let (all, words) = self.sorts.entry(sort).or_default();
-        *all += cases as u64;
-        *words += answer.words().len() as u64;
+    /// Adds the answer to some cases: the sort of each, and the word at which its part of the answer ends.
+    pub fn add(&mut self, parts: &[(u64, usize)], answer: Answer) {
+        let mut start = 0;
+        for &(sort, end) in parts {
+            let (cases, words) = self.sorts.entry(sort).or_default();
+            *cases += 1;
+            *words += (end - start) as u64;
+            start = end;
+        }
         self.tally.add(answer.tally);
     }
 }
@@ -33,7 +41,10 @@ impl fmt::Display for Report {
         let classes: Vec<_> = self.tally.samples().map(|(class, count)| format!("{class} {count}")).collect();
         writeln!(f, "samples compared: {samples} ({})", classes.join(", "))?;
         writeln!(f, "samples that stages of sort 1 put out: {}", self.tally.rendered)?;
-        self.stages(f)?;
+        if self.sorts.contains_key(&1) {
+            self.stages(f)?;
+            self.parameters(f)?;
+        }
         self.others(f)
     }
 }
@@ -41,26 +52,36 @@ impl fmt::Display for Report {
 impl Report {
     /// Kinds of stages down, circumstances across: how often each kind was run in each.
     fn stages(&self, f: &mut fmt::Formatter) -> fmt::Result {
-        let names: Vec<_> = kind::all().iter().map(|kind| kind.name()).collect();
-        if !names.iter().any(|name| self.tally.met.keys().any(|(thing, _)| thing == name)) {
-            return Ok(());
-        }
-        write!(f, "\n{:21}", "stages run")?;
+        write!(f, "\n{:31}", "stages run")?;
         CIRCUMSTANCES.iter().try_for_each(|circumstance| write!(f, "{circumstance:>7}"))?;
-        for name in &names {
-            write!(f, "\n{name:21}")?;
+        for name in kind::all().iter().map(|kind| kind.name()) {
+            write!(f, "\n{name:31}")?;
             for circumstance in CIRCUMSTANCES {
-                let count = self.tally.met.get(&(*name, circumstance)).copied().unwrap_or_default();
+                let count = self.tally.met.get(&(name, circumstance)).copied().unwrap_or_default();
                 write!(f, "{:>7}", short(count))?;
             }
         }
-        let possible = names.len() * 25;
-        let rarest = self.tally.crossed.values().min().copied().unwrap_or_default();
-        writeln!(
-            f,
-            "\nkind × window × parameter: {} of {possible} met, each at least {rarest} times",
-            self.tally.crossed.len()
-        )
+        writeln!(f)
+    }
+
+    /// Parameters of each kind down; windows, and the classes of parameters in each, across. A hole is a dash.
+    fn parameters(&self, f: &mut fmt::Formatter) -> fmt::Result {
+        write!(f, "\n{:31}", "parameters met")?;
+        WINDOWS.iter().try_for_each(|window| write!(f, "{window:<35}"))?;
+        write!(f, "\n{:31}", "")?;
+        WINDOWS.iter().flat_map(|_| PARAMETERS).try_for_each(|class| write!(f, "{class:>7}"))?;
+        let mut holes = 0;
+        for (family, role) in KINDS.iter().flat_map(|kind| kind.roles().iter().map(|role| (kind.family(), *role))) {
+            write!(f, "\n{family:21}{:10}", role.name())?;
+            let cells = WINDOWS.iter().flat_map(|window| PARAMETERS.iter().map(move |class| (window, class)));
+            for (window, class) in cells {
+                let count = self.tally.crossed.get(&[family, role.name(), window, class]).copied().unwrap_or_default();
+                let possible = *class != "absent" || role.may_be_absent();
+                write!(f, "{:>7}", if possible { short(count) } else { String::new() })?;
+                holes += u64::from(possible && count == 0);
+            }
+        }
+        writeln!(f, "\nholes in this table: {holes}\n")
     }
 
     /// The parts, and refusals.

@@ -7,6 +7,7 @@ use crate::answer::Answered;
 use crate::case::Sort;
 use crate::laid::Begin;
 use crate::laid::Laid;
+use crate::panics;
 use crate::pools::Buffer;
 use crate::pools::MOST_ZEROS;
 use crate::pools::Pools;
@@ -149,6 +150,18 @@ impl Pass for Single {
     fn pass(&mut self, tape: &mut dyn Tape) -> Passed {
         self.pools.pass(tape)?;
         tape.list(&mut self.operations)
+    }
+}
+
+impl Single {
+    /// Has the Rust do each operation on the pools as they are lent, where the table accepts it or refuses it with 5 or 7:
+    /// the table's number, and where the Rust panics.
+    pub fn attempts(&self) -> impl Iterator<Item = (u64, Option<String>)> {
+        self.operations.iter().filter_map(|operation| {
+            let number = operation.verdict(&self.pools).err().map_or(0, |refusal| refusal.number);
+            let attempt = || drop(operation.perform(&mut self.pools.clone()));
+            matches!(number, 0 | 5 | 7).then(|| (number, panics::place(attempt)))
+        })
     }
 }
 

@@ -16,10 +16,15 @@ pub const CIRCUMSTANCES: [&str; 21] = [
     "new", "in.ext", "store", "add", "o.ext", "in=out", "odd w",
 ];
 
+/// Those of the window, and those of a parameter, which are crossed. A window may be of two classes at once, and a
+/// parameter is at an edge besides.
+pub const WINDOWS: &[&str] = CIRCUMSTANCES.split_at(5).0;
+pub const PARAMETERS: &[&str] = CIRCUMSTANCES.split_at(7).1.split_at(5).0;
+
 const REFUSALS: [&str; 8] = ["", "1", "2", "3", "4", "5", "6", "7"];
 
 /// Orders by their length, in eights.
-const ORDERS: [&str; 5] = ["0", "1 to 8", "9 to 16", "17 to 24", "25 to 32"];
+const ORDERS: [&str; 5] = ["00", "01 to 08", "09 to 16", "17 to 24", "25 to 32"];
 
 pub fn meet_refusal(thing: &'static str, refusal: Refusal, tally: &mut Tally) {
     tally.meet(thing, REFUSALS[refusal.number as usize]);
@@ -47,10 +52,10 @@ impl Turn<'_> {
     fn meet(&mut self, stage: &Stage, tally: &mut Tally) {
         let (name, window) = (stage.kind.name(), self.window);
         let sizes = window_classes(window.n, self.capacity);
-        for parameter in &stage.parameters {
+        for (parameter, role) in stage.parameters.iter().zip(stage.kind.roles()) {
             for class in parameter_classes(parameter, &window.values) {
                 tally.meet(name, class);
-                sizes.iter().for_each(|size| tally.cross(name, size, class));
+                sizes.iter().for_each(|size| tally.cross([stage.kind.family(), role.name(), size, class]));
             }
         }
         for &input in &stage.inputs {

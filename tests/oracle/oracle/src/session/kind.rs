@@ -121,6 +121,16 @@ impl Kind {
         }
     }
 
+    /// The kind without its choices.
+    pub fn family(&self) -> &'static str {
+        match self {
+            Kind::Oscillator(_) => "oscillator",
+            Kind::ModulatedOscillator(..) => "modulated oscillator",
+            Kind::Waveguide(..) => "Waveguide",
+            _ => self.name(),
+        }
+    }
+
     /// The kind with its choices.
     pub fn name(&self) -> &'static str {
         match self {

@@ -11,6 +11,8 @@ mod show;
 mod smaller;
 
 pub use coverage::CIRCUMSTANCES;
+pub use coverage::PARAMETERS;
+pub use coverage::WINDOWS;
 use kind::Kind;
 use parameter::Parameter;
 
@@ -159,8 +161,21 @@ impl Window {
     }
 }
 
+impl Session {
+    /// The same from new states and rings, as the Rust begins.
+    pub fn from_new(self) -> Self {
+        Self { states: vec![State::default(); self.states.len()], rings: vec![0.0; self.rings.len()], ..self }
+    }
+
+    /// How many words answer a window.
+    pub fn answer_length(&self) -> usize {
+        let shown = 3 + self.pools.internal.samples.len() + self.pools.external.samples.len() + 2 * ROOM;
+        shown + if self.with_states { 11 * self.states.len() + self.rings.len() } else { 0 }
+    }
+}
+
 /// How many cells the rings of a patch take together.
-fn cells(stages: &[Stage]) -> u64 {
+pub fn cells(stages: &[Stage]) -> u64 {
     let sizes = stages.iter().filter_map(|stage| stage.kind.buffer_size());
     sizes.fold(0, |sum, size| sum.saturating_add(size).saturating_add(1))
 }

@@ -12,9 +12,11 @@ use crate::answer::Answered;
 use crate::answer::Unanswerable;
 use crate::laid::Begin;
 use crate::laid::Laid;
+use crate::panics;
 use crate::pools::Buffer;
 use crate::pools::Pools;
 use crate::refusals;
+use crate::refusals::Refusal;
 use crate::refusals::Verdict;
 
 type RustStage = magnetron::stage::Stage<Parameter>;
@@ -28,9 +30,31 @@ struct Host<'s> {
 }
 
 impl Session {
+    fn host(&self) -> Host<'_> {
+        Host { session: self, pools: self.pools.clone(), stages: self.stages.iter().map(|_| None).collect() }
+    }
+
+    /// What document 01's table says to a window that is asked for on the session as it is lent.
+    pub fn judge(&self, window: &Window) -> Verdict {
+        let mut host = self.host();
+        host.set(window);
+        host.judge(window).map_err(|(_, refusal)| refusal)
+    }
+
+    /// Has the Rust run a window on the session as it is lent, from new states, whatever the table says. Tells where it
+    /// panics, if it does, and what then stands in the pools. Slices, orders and parameters must be such as the Rust can have.
+    pub fn run_unchecked(&self, window: &Window) -> (Option<String>, Pools) {
+        let mut host = self.host();
+        host.set(window);
+        let mut ordered = host.take(&window.order);
+        let mut laid = Laid::new(&host.pools, window.width);
+        let place = panics::place(|| _ = window.process(&mut laid, &mut ordered));
+        laid.lift(&mut host.pools);
+        (place, host.pools)
+    }
+
     pub(super) fn answer_windows(&self, answer: &mut Answer) -> Answered {
-        let stages = self.stages.iter().map(|_| None).collect();
-        let mut host = Host { session: self, pools: self.pools.clone(), stages };
+        let mut host = self.host();
         for window in &self.windows {
             host.set(window);
             let (verdict, activity) = host.window(window, answer)?;
@@ -78,20 +102,21 @@ impl Host<'_> {
         }
     }
 
-    /// Prepare where it is asked for, and the run where nothing refuses it. What prepare leaves is needed for the check of the
-    /// run; the run itself then follows on a prepare of its own, which changes nothing more.
-    fn window(&mut self, window: &Window, answer: &mut Answer) -> Result<(Verdict, StageActivity), Unanswerable> {
+    /// Prepare where it is asked for, and the check of the run on what prepare leaves. Where one of them refuses, which.
+    fn judge(&mut self, window: &Window) -> Result<(), (&'static str, Refusal)> {
         if window.prepare {
-            if let Err(refusal) = refusals::prepare(&self.pools, window.n) {
-                coverage::meet_refusal("prepare before a run refused", refusal, &mut answer.tally);
-                return Ok((Err(refusal), StageActivity::Exhausted));
-            }
+            refusals::prepare(&self.pools, window.n).map_err(|refusal| ("prepare before a run refused", refusal))?;
             let mut laid = Laid::new(&self.pools, window.width);
             laid.write(window.n as usize, Begin::Prepared, |_| ());
             laid.lift(&mut self.pools);
         }
-        if let Err(refusal) = refusals::run(self.session, &self.pools, window) {
-            coverage::meet_refusal("run refused", refusal, &mut answer.tally);
+        refusals::run(self.session, &self.pools, window).map_err(|refusal| ("run refused", refusal))
+    }
+
+    /// The run where nothing refuses it. It follows on a prepare of its own, which changes nothing more.
+    fn window(&mut self, window: &Window, answer: &mut Answer) -> Result<(Verdict, StageActivity), Unanswerable> {
+        if let Err((which, refusal)) = self.judge(window) {
+            coverage::meet_refusal(which, refusal, &mut answer.tally);
             return Ok((Err(refusal), StageActivity::Exhausted));
         }
         coverage::meet_run(self.session, &self.pools, window, &mut answer.tally);
@@ -105,10 +130,9 @@ impl Host<'_> {
     }
 
     fn run(&mut self, window: &Window) -> StageActivity {
-        let mut ordered: Vec<RustStage> = window.order.iter().map(|&number| self.stage(number as usize)).collect();
-        let begin = if window.prepare { Begin::Prepared } else { Begin::AsItStands { reset: false } };
+        let mut ordered = self.take(&window.order);
         let mut laid = Laid::new(&self.pools, window.width);
-        let activity = laid.write(window.n as usize, begin, |writer| writer.process(&window.values[..], &mut ordered));
+        let activity = window.process(&mut laid, &mut ordered);
         laid.lift(&mut self.pools);
         for (&number, stage) in window.order.iter().zip(ordered) {
             self.stages[number as usize] = Some(stage);
@@ -116,8 +140,19 @@ impl Host<'_> {
         activity
     }
 
-    fn stage(&mut self, number: usize) -> RustStage {
-        let new = || self.session.stages[number].create().expect("an accepted stage has its parameters");
-        self.stages[number].take().unwrap_or_else(new)
+    /// The stages of an order, which are made where they have not been ordered before.
+    fn take(&mut self, order: &[u64]) -> Vec<RustStage> {
+        let taken = order.iter().map(|&number| {
+            let new = || self.session.stages[number as usize].create().expect("an accepted stage has its parameters");
+            self.stages[number as usize].take().unwrap_or_else(new)
+        });
+        taken.collect()
+    }
+}
+
+impl Window {
+    fn process(&self, laid: &mut Laid, ordered: &mut [RustStage]) -> StageActivity {
+        let begin = if self.prepare { Begin::Prepared } else { Begin::AsItStands { reset: false } };
+        laid.write(self.n as usize, begin, |writer| writer.process(&self.values[..], ordered))
     }
 }

@@ -184,23 +184,37 @@ fn zero_samples(session: &Session) -> Vec<Session> {
     [0, 1].into_iter().filter(|&which| !pools[which]).map(zero).collect()
 }
 
-/// States at zero but for their positions, and rings at zero; neither shown.
+/// States not shown; states and rings at zero but for the positions of strings, or those states alone that no stage has.
 fn new_states(session: &Session) -> Vec<Session> {
-    let new = after(session, |session| {
-        session.rings.fill(0.0);
-        session.states.iter_mut().for_each(|state| state.numbers = Default::default());
-    });
-    let mut all = Vec::new();
-    if session.with_states {
-        all.push(after(session, |session| session.with_states = false));
-    }
-    if new.rings != session.rings || new.states != session.states {
-        all.push(new);
-    }
-    all
+    let new = |all: bool| {
+        after(session, |session| {
+            for (number, state) in session.states.iter_mut().enumerate() {
+                let stage = session.stages.get(number);
+                if all || stage.is_none() {
+                    state.numbers = Default::default();
+                }
+                if stage.is_none_or(|stage| stage.kind.buffer_size().is_none()) {
+                    state.position = 0;
+                }
+            }
+            if all {
+                session.rings.fill(0.0);
+            }
+        })
+    };
+    let hidden = session.with_states.then(|| after(session, |session| session.with_states = false));
+    let other = |new: &Session| new.remembered() != session.remembered();
+    hidden.into_iter().chain([true, false].map(new).into_iter().filter(other)).collect()
 }
 
 impl Session {
+    /// The words of all states and rings.
+    fn remembered(&self) -> Vec<u64> {
+        let numbers = self.states.iter().flat_map(|state| &state.numbers).chain(&self.rings);
+        let positions = self.states.iter().map(|state| state.position);
+        numbers.map(|number| number.to_bits()).chain(positions).collect()
+    }
+
     /// How many samples are lent.
     fn length(&self) -> usize {
         self.pools.internal.samples.len() + self.pools.external.samples.len() + self.pools.zeros.len()

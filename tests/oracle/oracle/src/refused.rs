@@ -1,0 +1,120 @@
+//! The table of refusals over all small cases: the program's answers against the second reading, and against the Rust, which
+//! goes through where something is accepted, and panics where 5 or 7 refuses it.
+
+use std::error::Error;
+
+use crate::case::Case;
+use crate::compare::Compare;
+use crate::compare::Report;
+use crate::panics;
+use crate::session::Session;
+use crate::session::Window;
+use crate::session::parameter::Parameter;
+use crate::small;
+
+/// How many there are of each number.
+type Numbers = [u64; 8];
+
+/// Whether all is as document 01's table says. For one sort of cases the program alone is asked.
+pub fn run(compare: &Compare, sort: Option<u64>) -> Result<bool, Box<dyn Error>> {
+    let mut columns = Vec::new();
+    for (name, sorts, cases) in families() {
+        if sort.is_some_and(|sort| !sorts.contains(&sort)) {
+            continue;
+        }
+        let mut report = Report::default();
+        if let Some(different) = compare.first_different(cases(), &mut report)? {
+            println!("{different}");
+            return Ok(false);
+        }
+        columns.push((name, report.tally.outcomes));
+    }
+    if sort.is_none() {
+        let Some([asked, panicked]) = ask_the_rust() else {
+            return Ok(false);
+        };
+        columns.extend([("asked of Rust", asked), ("it panics", panicked)]);
+    }
+    print_table(&columns);
+    println!("every number, every stage and all that was lent as the table says\n");
+    Ok(true)
+}
+
+fn print_table(columns: &[(&str, Numbers)]) {
+    print!("refusal");
+    columns.iter().for_each(|(name, _)| print!("{name:>15}"));
+    for number in 0..8 {
+        print!("\n{number:7}");
+        columns.iter().for_each(|(_, numbers)| print!("{:>15}", numbers[number]));
+    }
+    println!();
+}
+
+type Cases = Box<dyn Iterator<Item = Case>>;
+
+/// The small cases: what they are about, their sorts, and the cases.
+fn families() -> [(&'static str, &'static [u64], fn() -> Cases); 4] {
+    [
+        ("runs", &[1], || Box::new(small::sessions().map(Case::Session))),
+        ("reads, writes", &[8], || Box::new(small::parts::singles())),
+        ("prepare", &[9], || Box::new(small::parts::prepares())),
+        ("over a ring", &[3, 6, 7], || Box::new(small::parts::rings())),
+    ]
+}
+
+/// Has the Rust do all runs, reads and writes that tell something, and counts at how many it panics. Nothing where it does
+/// otherwise than expected.
+fn ask_the_rust() -> Option<[Numbers; 2]> {
+    let mut counts = [[0; 8]; 2];
+    for session in small::sessions() {
+        for window in &session.windows {
+            if let Some((number, place)) = attempt(&session, window) {
+                let show = || Case::Session(Session { windows: vec![window.clone()], ..session.clone() }).show();
+                expect(number, place, &mut counts, show)?;
+            }
+        }
+    }
+    for case in small::parts::singles() {
+        if let Case::Single(single) = &case {
+            single.attempts().try_for_each(|(number, place)| expect(number, place, &mut counts, || case.show()))?;
+        }
+    }
+    Some(counts)
+}
+
+/// The Rust is to panic, in its own buffers, just where the number isn't 0.
+fn expect(number: u64, place: Option<String>, counts: &mut [Numbers; 2], show: impl FnOnce() -> String) -> Option<()> {
+    counts[0][number as usize] += 1;
+    counts[1][number as usize] += u64::from(place.is_some());
+    let expected = match &place {
+        None => number == 0,
+        Some(place) => number != 0 && place.starts_with("magnetron/"),
+    };
+    if !expected {
+        println!("{number} by the table, but the Rust {}:\n{}", panics::doing(&place), show());
+    }
+    expected.then_some(())
+}
+
+/// What the table says to a window, and where the Rust panics. It is not asked where 1 to 4 refuse the window, since it has no
+/// such pools, orders or rings, nor where 6 does, since it has no such parameters.
+fn attempt(session: &Session, window: &Window) -> Option<(u64, Option<String>)> {
+    let number = session.judge(window).err().map_or(0, |refusal| refusal.number);
+    let attempt = || with_parameters(session, window.values.len() as u64).run_unchecked(window).0;
+    matches!(number, 0 | 5 | 7).then(|| (number, attempt()))
+}
+
+/// The session with all parameters there, so that the Rust is asked for nothing else than what is refused.
+fn with_parameters(session: &Session, values: u64) -> Session {
+    let mut session = session.clone();
+    for stage in &mut session.stages {
+        for (parameter, role) in stage.parameters.iter_mut().zip(stage.kind.roles()) {
+            match parameter {
+                Parameter::Slot(slot) if *slot >= values => *parameter = Parameter::Fixed(0.5),
+                Parameter::Absent if !role.may_be_absent() => *parameter = Parameter::Fixed(0.5),
+                _ => (),
+            }
+        }
+    }
+    session
+}

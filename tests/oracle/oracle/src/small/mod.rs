@@ -1,0 +1,149 @@
+//! Small sessions, all of them, for the table of refusals: counts and capacities from 0 to 2, windows from 0 to 3, orders up
+//! to length 3, each kind of stage, and what stands at the bounds and just past them.
+
+mod bounds;
+mod orders;
+mod parameters;
+pub mod parts;
+mod pools;
+mod stages;
+
+use microwave::magnetron::waveguide::Reflectance;
+
+use crate::pools::Buffer;
+use crate::pools::Pool;
+use crate::pools::Pools;
+use crate::refusals::MOST_STAGES;
+use crate::session::Session;
+use crate::session::Stage;
+use crate::session::State;
+use crate::session::Window;
+use crate::session::cells;
+use crate::session::kind;
+use crate::session::kind::KINDS;
+use crate::session::kind::Kind;
+use crate::session::parameter::Parameter;
+
+/// Each session has windows that are all refused, or one window that is accepted.
+pub fn sessions() -> impl Iterator<Item = Session> {
+    let groups = pools::groups().chain(stages::groups()).chain(parameters::groups()).chain(orders::groups());
+    groups.chain(bounds::groups()).flat_map(Group::sessions)
+}
+
+/// Windows that each meet a session as it is lent.
+struct Group {
+    lent: Session,
+    windows: Vec<Window>,
+}
+
+impl Group {
+    /// A refusal changes nothing but what prepare did, so that all refused windows stand in one session, the prepared ones
+    /// last. There, states and rings are shown. An accepted window has a session of its own, which begins with new states, as
+    /// the Rust does.
+    fn sessions(self) -> Vec<Session> {
+        let Self { lent, windows } = self;
+        let (accepted, mut refused): (Vec<_>, Vec<_>) =
+            windows.into_iter().partition(|window| lent.judge(window).is_ok());
+        refused.sort_by_key(|window| window.prepare);
+        let new = |window| Session { windows: vec![window], ..lent.clone().from_new() };
+        let mut sessions: Vec<_> = accepted.into_iter().map(new).collect();
+        if !refused.is_empty() {
+            sessions.push(Session { with_states: true, windows: refused, ..lent });
+        }
+        sessions
+    }
+}
+
+/// Good pools in which no sample is like another.
+pub fn good_pools(counts: [u64; 2], capacities: [u64; 2]) -> Pools {
+    let [internal, external] = [(0, 0.5), (1, -0.5)].map(|(which, first)| {
+        let (count, capacity) = (counts[which], capacities[which]);
+        let samples = (0..count * capacity).map(|place| first * (1 + place) as f64).collect();
+        Pool { count, capacity, samples }
+    });
+    Pools { internal, external, zeros: vec![0.0; capacities[0] as usize], marks: Default::default() }
+}
+
+/// A session that lends as many ring cells as its stages need, and no values. All of it holds numbers; a string stands at the
+/// last slot of its ring, and other stages' positions are none.
+pub fn lent(pools: Pools, stages: Vec<Stage>) -> Session {
+    let states = (0..MOST_STAGES as usize).map(|number| State {
+        numbers: std::array::from_fn(|place| (number * 16 + place) as f64 - 0.125),
+        position: stages.get(number).and_then(|stage| stage.kind.buffer_size()).unwrap_or(u64::MAX),
+    });
+    Session {
+        pools,
+        rings: (0..cells(&stages)).map(|cell| cell as f64 + 0.0625).collect(),
+        states: states.collect(),
+        stage_count: stages.len() as u64,
+        stages,
+        ..Session::default()
+    }
+}
+
+/// A stage whose parameters are all fixed.
+pub fn stage(kind: &Kind, inputs: &[Buffer], output: Buffer) -> Stage {
+    let parameters = kind.roles().iter().map(|_| Parameter::Fixed(0.5)).collect();
+    Stage { kind: kind.clone(), inputs: inputs[..kind.inputs()].to_vec(), output, parameters }
+}
+
+pub fn window(prepare: bool, n: u64, order: &[u64]) -> Window {
+    Window { prepare, n, width: 0.25, order: order.to_vec(), ..Window::default() }
+}
+
+/// A string of so many slots and one.
+pub fn string(buffer_size: u64) -> Kind {
+    Kind::Waveguide(Reflectance::Positive, buffer_size)
+}
+
+pub fn internal(index: u64) -> Buffer {
+    Buffer { index, external: false }
+}
+
+pub fn external(index: u64) -> Buffer {
+    Buffer { index, external: true }
+}
+
+/// Each kind once, its choices by turns; strings of three slots.
+fn each_kind(turn: usize) -> [Kind; 14] {
+    KINDS.map(|family| {
+        let mut members = kind::all();
+        members.retain(|kind| kind.family() == family.family());
+        match members.swap_remove(turn % members.len()) {
+            Kind::Waveguide(reflectance, _) => Kind::Waveguide(reflectance, 2),
+            kind => kind,
+        }
+    })
+}
+
+/// Every way to mark the buffers that are there. The marks past them are alike.
+fn all_marks(pools: Pools) -> impl Iterator<Item = Pools> {
+    let counts = [pools.internal.count, pools.external.count];
+    (0..1u64 << (counts[0] + counts[1])).map(move |choice| {
+        let mut pools = pools.clone();
+        let past = choice.count_ones() % 2 == 1;
+        for (which, index) in [0, 1].into_iter().flat_map(|which| (0..16).map(move |index| (which, index))) {
+            let place = index + which as u64 * counts[0];
+            let there = index < counts[which];
+            pools.marks.0[which][index as usize] = if there { choice >> place & 1 == 1 } else { past };
+        }
+        pools
+    })
+}
+
+#[cfg(test)]
+mod tests {
+    use super::*;
+
+    /// The numbers that the table gives to a group's windows.
+    fn numbers(group: Group) -> String {
+        let number = |window: &Window| group.lent.judge(window).err().map_or(0, |refusal| refusal.number);
+        group.windows.iter().map(|window| number(window).to_string()).collect()
+    }
+
+    #[test]
+    fn bounds_are_accepted_and_what_is_past_them_is_refused() {
+        let met: Vec<_> = bounds::groups().map(numbers).collect();
+        assert_eq!(met.join(" "), "0002 1111 0002 1111 0002 1111 1111 1111 1111 0 4 00 11 11 00330333");
+    }
+}
