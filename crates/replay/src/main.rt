@@ -2,8 +2,14 @@
 // standard output. FORMAT.md beside this folder defines both.
 mod function;
 mod functions;
+mod patch;
+mod pools;
 mod run;
+mod session;
+mod setting;
+mod states;
 mod stream;
+mod window;
 
 use stream::Buffer;
 use stream::Place;
@@ -14,18 +20,35 @@ const REFUSED: u64 = 0xffff_ffff_ffff_ffff;
 fn main() {
     let mut input = [0u8; 65536];
     let mut output = [0u8; 65536];
-    let mut samples = [0.0; 65536];
-    answer_all(&mut input, &mut output, &mut samples);
+    let mut internal = [0.0; 65536];
+    let mut external = [0.0; 65536];
+    let mut zeros = [0.0; 8192];
+    let mut rings = [0.0; 131072];
+    answer_all(
+        &mut input,
+        &mut output,
+        &mut internal,
+        &mut external,
+        &mut zeros,
+        &mut rings,
+    );
 }
 
 // Answers case after case. A proved loop has to end, and nothing says that the input does: so the
 // turns are counted down, from a number that no run uses up.
-fn answer_all(input: &mut Buffer, output: &mut Buffer, samples: &mut [f64]) {
+fn answer_all(
+    input: &mut Buffer,
+    output: &mut Buffer,
+    internal: &mut [f64; 65536],
+    external: &mut [f64; 65536],
+    zeros: &mut [f64; 8192],
+    rings: &mut [f64; 131072],
+) {
     let mut place = Place::start();
     let mut turns = u64::MAX;
     while turns > 0 {
         turns -= 1;
-        place = answer_next(place, input, output, samples);
+        place = answer_next(place, input, output, internal, external, zeros, rings);
         if place.over {
             finish(place, output);
             return;
@@ -38,17 +61,28 @@ fn answer_next(
     place: Place,
     input: &mut Buffer,
     output: &mut Buffer,
-    samples: &mut [f64],
+    internal: &mut [f64; 65536],
+    external: &mut [f64; 65536],
+    zeros: &mut [f64; 8192],
+    rings: &mut [f64; 131072],
 ) -> Place {
     let next = place.next_case(input, output);
     let after = next.place;
     if after.over {
         return after;
     }
-    if next.word == 2 {
-        return functions::answer(after, input, output, samples);
+    let sort = next.word;
+    match sort {
+        1 => {
+            return session::answer(after, input, output, internal, external, zeros, rings);
+        }
+        2 => {
+            return functions::answer(after, input, output, internal);
+        }
+        _ => {
+            return after.refused();
+        }
     }
-    after.refused()
 }
 
 // The last word, where there is one, and what is still to be sent.

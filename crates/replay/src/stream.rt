@@ -4,9 +4,12 @@ ghost use Prim.Native.Nat.{_-_, _≤_};
 ghost use lib.ListN.{length};
 use libc::STDIN_FILENO;
 use libc::STDOUT_FILENO;
+use words::number::from_word;
+use words::number::to_word;
 use words::reader::Cursor;
 use words::reader::Taken;
 use words::writer::Stored;
+use words::writer::pour;
 
 // What is read at once, and what is gathered before it is sent.
 pub type Buffer = [u8; 65536];
@@ -24,6 +27,18 @@ pub struct Place {
 pub struct Next {
     pub place: Place,
     pub word: u64,
+}
+
+// Up to sixteen words of the input and the place after them.
+pub struct Words {
+    pub place: Place,
+    pub at: [u64; 16],
+}
+
+// A number of the input and the place after it.
+pub struct Number {
+    pub place: Place,
+    pub value: f64,
 }
 
 impl Place {
@@ -68,6 +83,59 @@ impl Place {
         Next { place, word }
     }
 
+    // A word of at most `most`. Any other has no meaning: the case is refused, and the word is 0.
+    pub fn next_up_to(self, input: &mut Buffer, most: u64) -> Next
+        ensures { λ r. ⌜ r .word ≤ most ⌝ }
+    {
+        let next = self.next(input);
+        if most < next.word {
+            let place = next.place;
+            return Next {
+                place: place.refused(),
+                word: 0,
+            };
+        }
+        next
+    }
+
+    // A word where one is wanted, else 0 with nothing read.
+    pub fn next_if(self, input: &mut Buffer, wanted: bool) -> Next {
+        if wanted {
+            return self.next(input);
+        }
+        Next {
+            place: self,
+            word: 0,
+        }
+    }
+
+    // The next `count` words; those past the count are 0, and there are no more than sixteen.
+    pub fn next_words(self, input: &mut Buffer, count: usize) -> Words {
+        let mut place = self;
+        let mut at = [0u64; 16];
+        let mut k = 0;
+        while k < 16 {
+            if count <= k {
+                return Words { place, at };
+            }
+            let next = place.next(input);
+            at[k] = next.word;
+            place = next.place;
+            k += 1;
+        }
+        Words { place, at }
+    }
+
+    // A word inside a case that is a number's bits.
+    pub fn next_number(self, input: &mut Buffer) -> Number {
+        let next = self.next(input);
+        let place = next.place;
+        Number {
+            place,
+            value: from_word(next.word),
+        }
+    }
+
     // All the samples are read.
     pub fn read_samples(self, input: &mut Buffer, samples: &mut [f64]) -> Place {
         let mut place = self;
@@ -108,6 +176,42 @@ impl Place {
             return place.refused();
         };
         place.filled = next;
+        place
+    }
+
+    // One more word of answers: a number's bits.
+    pub fn write_number(self, output: &mut Buffer, number: f64) -> Place {
+        self.write(output, to_word(number))
+    }
+
+    // All the samples are written.
+    pub fn write_samples(self, output: &mut Buffer, samples: &[f64]) -> Place {
+        let mut place = self;
+        let mut count = 0;
+        while count < samples.len() {
+            place = place.cleared(output, 0);
+            let filled = place.filled;
+            let poured = pour(output, filled, samples, count);
+            place.filled = poured.at;
+            if poured.next <= count {
+                return place.refused();
+            }
+            count = poured.next;
+        }
+        place
+    }
+
+    // The first `count` of sixteen words are written.
+    pub fn write_words(self, output: &mut Buffer, words: [u64; 16], count: usize) -> Place {
+        let mut place = self;
+        let mut k = 0;
+        while k < 16 {
+            if count <= k {
+                return place;
+            }
+            place = place.write(output, words[k]);
+            k += 1;
+        }
         place
     }
 

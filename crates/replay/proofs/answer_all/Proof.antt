@@ -1,15 +1,13 @@
 -- `replay::answer_all` is safe and ends: its turns are counted down. Assumes nothing.
-use mathlib.Core.Path.{_≡_}
 use borrow.Author.Needs.{needs}
-use lib.ListN.{length}
 use Rattle.replay.proofs.answer_all.Statement.{statement}
 use Rattle.replay.proofs.answer_all.Tie as tie
 
 abbrev Inv-loop : tie.InvT-loop
-Inv-loop input₀ output₀ samples₀ place₀ turns₀ input output samples place turns = length samples ≡ length samples₀
+Inv-loop input₀ output₀ internal₀ external₀ zeros₀ rings₀ place₀ turns₀ input output internal external zeros rings place turns = Unit
 
 abbrev μ-loop : tie.MeasureT-loop
-μ-loop input₀ output₀ samples₀ place₀ turns₀ input output samples place turns = turns
+μ-loop input₀ output₀ internal₀ external₀ zeros₀ rings₀ place₀ turns₀ input output internal external zeros rings place turns = turns
 
 start-requires : tie.Need-start-requires Inv-loop μ-loop
 start-requires c κs = search needs
@@ -26,9 +24,6 @@ answer-next-requires c κs = search needs
 finish-requires : tie.Need-finish-requires Inv-loop μ-loop
 finish-requires c κs = search needs
 
-same-length : tie.Need-same-length Inv-loop μ-loop
-same-length c = search needs
-
 returns : tie.Need-returns Inv-loop μ-loop
 returns c = search needs
 
@@ -37,9 +32,6 @@ loop-less c = search needs
 
 loop-again : tie.Need-loop-again Inv-loop μ-loop
 loop-again c = search needs
-
-same-length-2 : tie.Need-same-length-2 Inv-loop μ-loop
-same-length-2 c = search needs
 
 returns-2 : tie.Need-returns-2 Inv-loop μ-loop
 returns-2 c = search needs
@@ -55,9 +47,7 @@ answer-all-spec =
     sub-turns
     answer-next-requires
     finish-requires
-    same-length
     returns
     loop-less
     loop-again
-    same-length-2
     returns-2)
