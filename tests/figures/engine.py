@@ -1,4 +1,4 @@
-"""The engine, asked through a replay program: words in, words out (tests/oracle/FORMAT.md)."""
+"""The engine, asked through a replay program: words in, words out (crates/replay/FORMAT.md)."""
 import struct, subprocess, sys
 
 CAPACITY = 4096

@@ -2,8 +2,8 @@
 
 use crate::function::arity;
 use crate::run::answer_run;
-use crate::stream::Buffer;
-use crate::stream::Place;
+use stream::place::Buffer;
+use stream::place::Place;
 
 // The number of the function with one answer to all its arguments.
 const ALL_PLUS_ZERO: u64 = 13;

@@ -3,16 +3,14 @@
 mod function;
 mod functions;
 mod patch;
-mod pools;
 mod run;
 mod session;
 mod setting;
 mod states;
-mod stream;
 mod window;
 
-use stream::Buffer;
-use stream::Place;
+use stream::place::Buffer;
+use stream::place::Place;
 
 // The word that ends the answers where a case is refused.
 const REFUSED: u64 = 0xffff_ffff_ffff_ffff;
@@ -78,6 +76,21 @@ fn answer_next(
         }
         2 => {
             return functions::answer(after, input, output, internal);
+        }
+        3..=7 => {
+            return parts::device::answer(after, sort, input, output, rings);
+        }
+        8..=9 => {
+            return parts::single::answer(
+                after,
+                sort,
+                input,
+                output,
+                internal,
+                external,
+                zeros,
+                rings,
+            );
         }
         _ => {
             return after.refused();

@@ -1,6 +1,4 @@
 // A patch as a case lends it: a count and plain numbers for each stage. Buffers, sizes and slots may be bad: the engine is what refuses.
-use crate::stream::Buffer;
-use crate::stream::Place;
 use engine::stage::Kind;
 use engine::stage::Patch;
 use engine::stage::Stage;
@@ -13,6 +11,8 @@ use flat::stage::Named;
 use flat::stage::stage_of;
 use magnetron::buffer::BufferIndex;
 use microwave::parameter::Parameter;
+use stream::place::Buffer;
+use stream::place::Place;
 use words::number::from_word;
 
 // At most 32 stages are there, whatever the count says.

@@ -1,15 +1,15 @@
 // Sort 1: a session of runs. Pools, a patch and states are lent once, and window follows window over what the one before left.
 use crate::patch::FlatPatch;
 use crate::patch::read_patch;
-use crate::pools::read_contents;
-use crate::pools::read_marks;
-use crate::pools::read_sizes;
 use crate::states::read_states;
-use crate::stream::Buffer;
-use crate::stream::Place;
 use crate::window::answer_window;
 use engine::state::States;
 use magnetron::pool::Pools;
+use parts::pools::read_contents;
+use parts::pools::read_marks;
+use parts::pools::read_sizes;
+use stream::place::Buffer;
+use stream::place::Place;
 
 // What goes from window to window by value: the place in the streams, the pools and the states.
 pub struct Session {

@@ -1,9 +1,9 @@
 // What the host does with the external buffers before a window: it leaves one as it is, marks it stale, or stores samples in it.
 ghost use Prim.Native.Nat.{_≤_};
-use crate::pools::Marked;
-use crate::stream::Buffer;
-use crate::stream::Place;
 use magnetron::pool::Pools;
+use parts::pools::Marked;
+use stream::place::Buffer;
+use stream::place::Place;
 
 // One setting for each external buffer.
 pub fn set_all(

@@ -1,6 +1,4 @@
 // The states of all stages, eleven words each, in and out.
-use crate::stream::Buffer;
-use crate::stream::Place;
 use engine::state::State;
 use engine::state::States;
 use engine::state::new_states;
@@ -8,6 +6,8 @@ use microwave::filter::Biquad;
 use microwave::filter::OnePoleMemory;
 use microwave::oscillator::Phases;
 use microwave::waveguide::StringMemory;
+use stream::place::Buffer;
+use stream::place::Place;
 use words::number::from_word;
 use words::number::to_word;
 

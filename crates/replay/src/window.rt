@@ -2,15 +2,10 @@
 ghost use Prim.Native.Nat.{_≤_};
 use crate::patch::FlatPatch;
 use crate::patch::patch_of;
-use crate::pools::Marked;
-use crate::pools::write_marks;
-use crate::pools::write_samples;
 use crate::session::Common;
 use crate::session::Session;
 use crate::setting::set_all;
 use crate::states::write_states;
-use crate::stream::Buffer;
-use crate::stream::Place;
 use engine::run::Ran;
 use engine::run::run;
 use engine::state::States;
@@ -19,6 +14,11 @@ use magnetron::pool::Prepared;
 use magnetron::pool::prepare;
 use magnetron::stage::StageActivity;
 use magnetron::write::Answer;
+use parts::pools::Marked;
+use parts::pools::write_marks;
+use parts::pools::write_samples;
+use stream::place::Buffer;
+use stream::place::Place;
 
 // What a window begins with, and the place after it.
 struct Opening {

@@ -1,0 +1,33 @@
+// Sort 7: the all-pass delay.
+
+use crate::device::Device;
+use util::all_pass::AllPassDelay;
+use util::all_pass::Passed;
+use util::delay_line::Cursor;
+
+// One operation, by its number.
+pub fn perform(device: Device, ring: &mut [f64], operation: u64, a: f64, b: f64) -> Device {
+    let position = device.position;
+    let delay = AllPassDelay {
+        cursor: Cursor { position },
+        feedback: device.factor,
+    };
+    match operation {
+        0 => {
+            return device.passed(delay.process_sample(ring, a));
+        }
+        1 => {
+            return device.passed(delay.process_sample_fract(ring, a, b));
+        }
+        _ => {
+            return device.after(delay.mute(ring), position, 0.0);
+        }
+    }
+}
+
+impl Device {
+    fn passed(self, passed: Passed) -> Device {
+        let verdict = passed.verdict;
+        self.after(verdict, passed.delay.cursor.position, passed.sample)
+    }
+}

@@ -1,0 +1,119 @@
+// The pools that a case lends: their sizes, the lengths of the lent slices, what these hold, and the stale marks. Any of it may be bad:
+// the engine is what refuses.
+use magnetron::buffer::Marks;
+use magnetron::pool::Pool;
+use magnetron::pool::Pools;
+use stream::place::Buffer;
+use stream::place::Place;
+
+// Counts and capacities as lent, the lengths of the three slices that are lent with them, and the place after them.
+pub struct Sizes {
+    pub place: Place,
+    pub pools: Pools,
+    pub internal: usize,
+    pub external: usize,
+    pub zeros: usize,
+}
+
+// Pools with their marks, and the place after them.
+pub struct Marked {
+    pub place: Place,
+    pub pools: Pools,
+}
+
+// Nothing is stale yet.
+pub fn read_sizes(start: Place, input: &mut Buffer) -> Sizes {
+    let read = start.next_words(input, 7);
+    let place = read.place;
+    let words = read.at;
+    Sizes {
+        place,
+        pools: Pools {
+            internal: pool_of(words[0], words[1]),
+            external: pool_of(words[2], words[3]),
+            reset: false,
+        },
+        internal: words[4] as usize,
+        external: words[5] as usize,
+        zeros: words[6] as usize,
+    }
+}
+
+fn pool_of(count: u64, capacity: u64) -> Pool {
+    Pool {
+        count: count as usize,
+        capacity: capacity as usize,
+        stale: [false; 16],
+    }
+}
+
+// What the three slices hold.
+pub fn read_contents(
+    start: Place,
+    input: &mut Buffer,
+    internal: &mut [f64],
+    external: &mut [f64],
+    zeros: &mut [f64],
+) -> Place {
+    let inside = start.read_samples(input, internal);
+    let outside = inside.read_samples(input, external);
+    outside.read_samples(input, zeros)
+}
+
+// The marks of both pools.
+pub fn read_marks(start: Place, pools: Pools, input: &mut Buffer) -> Marked {
+    let inside = start.next_words(input, 16);
+    let between = inside.place;
+    let outside = between.next_words(input, 16);
+    let place = outside.place;
+    let internal = inside.at;
+    let external = outside.at;
+    let marks = Marks {
+        internal: marks_of(internal),
+        external: marks_of(external),
+    };
+    Marked {
+        place,
+        pools: pools.with_marks(marks),
+    }
+}
+
+fn marks_of(words: [u64; 16]) -> [bool; 16] {
+    let mut marks = [false; 16];
+    let mut k = 0;
+    while k < 16 {
+        marks[k] = words[k] != 0;
+        k += 1;
+    }
+    marks
+}
+
+// All samples of both pools.
+pub fn write_samples(
+    start: Place,
+    output: &mut Buffer,
+    internal: &[f64],
+    external: &[f64],
+) -> Place {
+    let inside = start.write_samples(output, internal);
+    inside.write_samples(output, external)
+}
+
+// The marks of both pools.
+pub fn write_marks(start: Place, pools: Pools, output: &mut Buffer) -> Place {
+    let marks = pools.marks();
+    let internal = marks.internal;
+    let external = marks.external;
+    let inside = start.write_words(output, words_of(internal), 16);
+    inside.write_words(output, words_of(external), 16)
+}
+
+fn words_of(marks: [bool; 16]) -> [u64; 16] {
+    let mut words = [0u64; 16];
+    let mut k = 0;
+    while k < 16 {
+        words[k] = marks[k] as u64;
+        k += 1;
+    }
+    words
+}

@@ -1,0 +1,86 @@
+"""Sort 1: every kind with each of its choices, over several windows each, with its state carried from one to the next."""
+import itertools, random
+from words import INFINITY, NAN, SIGN, bits, number
+
+PLAIN, CLIP, FILTERS, OSCILLATOR, MODULATED, WAVEGUIDE, RING_MODULATOR = [0, 1], 2, range(3, 10), 10, 11, 12, 13
+WAVEFORMS, MODULATIONS, REFLECTANCES = range(5), range(2), range(2)
+SECONDS, SLOT, ABSENT = [3], lambda k: [2, k], [0]
+ONE_POLES = (3, 5)
+# external 0 and 1 are inputs, internal 0 is the output
+INPUT, OTHER, OUTPUT = 1, 3, 0
+BUFFER_SIZE = 40
+HOSTILE = {
+    'zero and negative': [0, SIGN, bits(-1.0), bits(-440.0), bits(-1e-20)],
+    'huge and subnormal': [bits(1e300), bits(-1e300), 1, SIGN | 1, bits(2.0 ** -1022), bits(2.0 ** 64)],
+    'infinite and NaN': [INFINITY, INFINITY | SIGN, NAN],
+}
+WIDTH = bits(1 / 48000)
+
+
+def kinds():
+    """the words of a stage up to its parameters, how many of these follow out_level, and whether it has a ring"""
+    for kind in PLAIN:
+        yield [kind, INPUT, OUTPUT], 0, False
+    yield [CLIP, INPUT, OUTPUT], 1, False
+    for kind in FILTERS:
+        yield [kind, INPUT, OUTPUT], 1 if kind in ONE_POLES else 2, False
+    for waveform in WAVEFORMS:
+        yield [OSCILLATOR, waveform, OUTPUT], 2, False
+    for waveform, modulation in itertools.product(WAVEFORMS, MODULATIONS):
+        yield [MODULATED, waveform, modulation, INPUT, OUTPUT], 2, False
+    for reflectance in REFLECTANCES:
+        yield [WAVEGUIDE, reflectance, BUFFER_SIZE, INPUT, OUTPUT], 3, True
+    yield [RING_MODULATOR, INPUT, OTHER, OUTPUT], 0, False
+
+
+def ordinary(kind, k):
+    """a value that suits parameter k of a kind: a level, then frequencies, a quality, a feedback, a limit or a phase"""
+    if k == 0:
+        return bits(random.uniform(0.1, 1.0))
+    if kind == CLIP:
+        return bits(random.uniform(-0.7, 0.7))
+    if kind in FILTERS and k == 2:
+        return bits(random.uniform(0.3, 4.0))
+    if kind in (OSCILLATOR, MODULATED) and k == 2:
+        return bits(random.random())
+    if kind == WAVEGUIDE and k == 3:
+        return bits(random.uniform(-1.0, 1.0))
+    return bits(random.uniform(200.0, 12000.0))
+
+
+def values_of(kind, count, hostile):
+    values = [ordinary(kind, k) for k in range(count + 1)]
+    if hostile:
+        for k in random.sample(range(count + 1), random.randint(1, count + 1)):
+            values[k] = random.choice(HOSTILE[hostile])
+    return values
+
+
+def window(n, width, values, prepared, hostile):
+    """prepare and set both inputs, then run the one stage"""
+    signal = lambda: [number() if hostile and random.random() < 0.1 else bits(random.uniform(-1, 1)) for _ in range(n)]
+    return [2 | prepared, n, width, 2, *signal(), 2, *signal(), *values, 1, 0]
+
+
+def session(stage, count, has_ring, windows, hostile):
+    """one internal and two external buffers; every parameter is a slot but, now and then, out_level"""
+    capacity = max(windows)
+    level = ABSENT if random.random() < 0.3 else SLOT(0)
+    parameters = level + sum((SLOT(k + 1) for k in range(count)), [])
+    ring = BUFFER_SIZE + 1 if has_ring else 0
+    head = [1, 0, 1, capacity, 2, capacity, capacity, 2 * capacity, capacity, count + 1, ring, 1]
+    contents = [0] * (capacity + 2 * capacity + capacity + count + 1 + ring)
+    body = []
+    for at, n in enumerate(windows):
+        width = random.choice([WIDTH, 0, SIGN, bits(-1 / 48000), NAN]) if hostile and at % 2 else WIDTH
+        # not prepared, a window adds to what the one before has left
+        body += window(n, width, values_of(stage[0], count, hostile), 0 if at == 2 else 1, hostile)
+    return head + stage + parameters + contents + [0] * 32 + [0] * (32 * 11) + [len(windows)] + body
+
+
+def cases():
+    for stage, count, has_ring in kinds():
+        yield session(stage, count, has_ring, [64, 0, 63, 1, 2, 64], None)
+        yield session(stage, count, has_ring, [257, 257], None)
+        for hostile in HOSTILE:
+            yield session(stage, count, has_ring, [2, 33, 1, 0, 33], hostile)
