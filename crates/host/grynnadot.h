@@ -3,7 +3,7 @@
  * Nothing is kept between calls and nothing is allocated. Records go by value and come back by value; samples, zeros, rings, values and the
  * order are lent as a pointer and a count. Every input gets an answer: a refusal says why by its number and changes nothing. What each
  * function answers for any input is proved; see crates/host/specs. A caller must lend what it says it lends: `count` elements that may be
- * read, or written where the pointer is not const, and that do not overlap. */
+ * read, or written where the pointer is not const, and that do not overlap. Link with -lm: oscillators call fmod. */
 #ifndef GRYNNADOT_H
 #define GRYNNADOT_H
 

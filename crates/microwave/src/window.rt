@@ -108,8 +108,8 @@ pub fn one_pole_window(
     memory
 }
 
-// A biquad filter.
-pub fn biquad_window(
+// The samples of a window, wherever its input lies.
+fn biquad_loop(
     k: Coefficients,
     mut memory: Biquad,
     own: &mut [f64],
@@ -131,8 +131,27 @@ pub fn biquad_window(
     memory
 }
 
-// A waveguide, on its own ring.
-pub fn string_window(
+// A biquad filter. Where the input lies is told apart once, so that no sample asks for it again.
+pub fn biquad_window(
+    k: Coefficients,
+    memory: Biquad,
+    own: &mut [f64],
+    other: &[f64],
+    input: Input,
+    target: Target,
+) -> Biquad
+    requires { ⌜ (LiesIn target (now own)) × (ClearOf input (now own) (now other) target) ⌝ }
+    ensures { λ r. ⌜ Windowed (biquadNext k) (biquadOut k) memory (signalOf input (now (own .entry)) (now (other .entry))) (now (own .entry)) target r (now (own .exit)) ⌝ }
+{
+    match input {
+        Input::Zeros => biquad_loop(k, memory, own, other, Input::Zeros, target),
+        Input::Own(at) => biquad_loop(k, memory, own, other, Input::Own(at), target),
+        Input::Other(at) => biquad_loop(k, memory, own, other, Input::Other(at), target),
+    }
+}
+
+// The samples of a window, wherever its input lies.
+fn string_loop(
     k: Guide,
     mut memory: StringMemory,
     ring: &mut [f64],
@@ -155,4 +174,26 @@ pub fn string_window(
         i += 1;
     }
     memory
+}
+
+// A waveguide, on its own ring. Where the input lies is told apart once, so that no sample asks for it again.
+pub fn string_window(
+    k: Guide,
+    memory: StringMemory,
+    ring: &mut [f64],
+    own: &mut [f64],
+    other: &[f64],
+    input: Input,
+    target: Target,
+) -> StringMemory
+    requires { ⌜ (LiesIn target (now own)) × (ClearOf input (now own) (now other) target) ⌝ }
+    requires { ⌜ InRing k (strung memory (now ring)) ⌝ }
+    ensures { λ r. ⌜ Windowed (stringNext k) (stringOut k) (strung memory (now (ring .entry))) (signalOf input (now (own .entry)) (now (other .entry))) (now (own .entry)) target
+        (strung r (now (ring .exit))) (now (own .exit)) ⌝ }
+{
+    match input {
+        Input::Zeros => string_loop(k, memory, ring, own, other, Input::Zeros, target),
+        Input::Own(at) => string_loop(k, memory, ring, own, other, Input::Own(at), target),
+        Input::Other(at) => string_loop(k, memory, ring, own, other, Input::Other(at), target),
+    }
 }

@@ -1,66 +1,57 @@
--- `microwave::window::biquad_window` meets its contract: the loop's invariant is `Turned`, of the biquad's machine. Assumes nothing.
-use mathlib.Core.Path.{ap}
-use Prim.Native.Nat.{_-_}
-use native.Mathlib.Omega.{arith}
+-- `microwave::window::biquad_window` meets its contract: the loop's, at each place where the input may lie. Assumes nothing.
 use borrow.Author.Needs.{needs}
-use Rattle.microwave.specs.Filter.{biquadNext, biquadOut}
-use Rattle.microwave.specs.declared.filter.Stepped.{Stepped}
-use Rattle.microwave.proofs.Turns.{Turned, turned-start, turned-reach, turned-room, turned-more, turned-end}
 use Rattle.microwave.proofs.window.biquad_window.Statement.{statement}
 use Rattle.microwave.proofs.window.biquad_window.Tie as tie
 
-abbrev Inv-loop : tie.InvT-loop
-Inv-loop k memory₀ own₀ other input target i₀ memory own i = Turned (biquadNext k) (biquadOut k) memory₀ own₀ other input target own memory i
+enum-told : tie.Need-enum-told
+enum-told c = search needs
 
-abbrev μ-loop : tie.MeasureT-loop
-μ-loop k memory₀ own₀ other input target i₀ memory own i = target .samples - i
+biquad-loop-requires : tie.Need-biquad-loop-requires
+biquad-loop-requires c κs = search needs
 
-loop-holds : tie.Need-loop-holds Inv-loop μ-loop
-loop-holds c = turned-start (c .before .before .pre .0) (c .before .before .pre .1)
+enum-known-input : tie.Need-enum-known-input
+enum-known-input c = search needs
 
-fetch-requires : tie.Need-fetch-requires Inv-loop μ-loop
-fetch-requires c κs = turned-reach (c .before .before .before .loop .inv) (c .before .if1 .taken)
+biquad-loop-requires-2 : tie.Need-biquad-loop-requires-2
+biquad-loop-requires-2 c κs = ((c .before .before .before .before .before .before .pre .0), rw ((c .before .before .input .given .1)) at ((c .before .before .before .before .before .before .pre .1)))
 
-step-requires : tie.Need-step-requires Inv-loop μ-loop
-step-requires c κs = search needs
+enum-known-input-2 : tie.Need-enum-known-input-2
+enum-known-input-2 c = search needs
 
-write-sample-requires : tie.Need-write-sample-requires Inv-loop μ-loop
-write-sample-requires c κs =
-    let t = c .before .before .before .before .before in
-    turned-room (t .before .before .loop .inv) (t .if1 .taken)
+biquad-loop-requires-3 : tie.Need-biquad-loop-requires-3
+biquad-loop-requires-3 c κs = ((c .before .before .before .before .before .before .pre .0), rw ((c .before .before .input2 .given .1)) at ((c .before .before .before .before .before .before .pre .1)))
 
-add-i : tie.Need-add-i Inv-loop μ-loop
-add-i c = omega arith
+same-length : tie.Need-same-length
+same-length c = search needs
 
-loop-less : tie.Need-loop-less Inv-loop μ-loop
-loop-less c = omega arith
+returns : tie.Need-returns
+returns c = rw ((c .before .before .before .before .enum-told .given .1)) ((c .before .before .biquad-loop .ensures))
 
-loop-again : tie.Need-loop-again Inv-loop μ-loop
-loop-again c =
-    let s = c .before .before .before .before .before in
-    let t = s .before .before .before in
-    turned-more (t .before .before .loop .inv) (t .if1 .taken) (s .before .fetch .ensures)
-    (ap (λ (r : Stepped). r .memory) (s .step .ensures)) (ap (λ (r : Stepped). r .sample) (s .step .ensures))
-    (c .before .before .write-sample .ensures)
+same-length-2 : tie.Need-same-length-2
+same-length-2 c = search needs
 
-same-length : tie.Need-same-length Inv-loop μ-loop
-same-length c = c .before .before .loop .inv .runs .writes .long
+returns-2 : tie.Need-returns-2
+returns-2 c = rw ((c .before .before .before .before .before .input .given .1)) ((c .before .before .biquad-loop2 .ensures))
 
-returns : tie.Need-returns Inv-loop μ-loop
-returns c = turned-end (c .before .before .loop .inv) (c .if1 .left)
+same-length-3 : tie.Need-same-length-3
+same-length-3 c = search needs
+
+returns-3 : tie.Need-returns-3
+returns-3 c = rw ((c .before .before .before .before .before .input2 .given .1)) ((c .before .before .biquad-loop3 .ensures))
 
 pub biquad-window-spec : {M : Type 1} → statement M
 biquad-window-spec =
     tie.close
     (tie.spec
-    Inv-loop
-    μ-loop
-    loop-holds
-    fetch-requires
-    step-requires
-    write-sample-requires
-    add-i
-    loop-less
-    loop-again
+    enum-told
+    biquad-loop-requires
+    enum-known-input
+    biquad-loop-requires-2
+    enum-known-input-2
+    biquad-loop-requires-3
     same-length
-    returns)
+    returns
+    same-length-2
+    returns-2
+    same-length-3
+    returns-3)

@@ -1,79 +1,69 @@
--- `microwave::window::string_window` meets its contract: the loop's invariant is `Turned`, of the string's machine, whose state is the memory with the ring; and the string stays in its ring. Assumes nothing.
-use mathlib.Core.Path.{_≡_, refl, sym, ap, subst, _∙_}
-use Prim.Native.Nat.{_-_}
-use native.Mathlib.Omega.{arith}
-use lib.ListN.{length}
-use Rattle.util.specs.Interaction.{Step}
-use Rattle.microwave.specs.Waveguide.{Strung, strung, InRing, stringNext, stringOut}
-use Rattle.microwave.proofs.Strings.{string-length, string-stays}
-use Rattle.microwave.proofs.Turns.{Turned, turned-start, turned-reach, turned-room, turned-more, turned-end}
+-- `microwave::window::string_window` meets its contract: the loop's, at each place where the input may lie. Assumes nothing.
+use borrow.Author.Needs.{needs}
 use Rattle.microwave.proofs.window.string_window.Statement.{statement}
 use Rattle.microwave.proofs.window.string_window.Tie as tie
 
-abbrev Inv-loop : tie.InvT-loop
-Inv-loop k memory₀ ring₀ own₀ other input target i₀ memory ring own i =
-    Turned (stringNext k) (stringOut k) (strung memory₀ ring₀) own₀ other input target own (strung memory ring) i
-    × (InRing k (strung memory ring)) × (length ring ≡ length ring₀)
+enum-told : tie.Need-enum-told
+enum-told c = search needs
 
-abbrev μ-loop : tie.MeasureT-loop
-μ-loop k memory₀ ring₀ own₀ other input target i₀ memory ring own i = target .samples - i
+string-loop-requires : tie.Need-string-loop-requires
+string-loop-requires c κs = search needs
 
-loop-holds : tie.Need-loop-holds Inv-loop μ-loop
-loop-holds c =
-    let s = c .before .before .before in
-    (turned-start (s .pre .0 .0) (s .pre .0 .1), s .pre .1, refl)
+enum-known-input : tie.Need-enum-known-input
+enum-known-input c = search needs
 
-fetch-requires : tie.Need-fetch-requires Inv-loop μ-loop
-fetch-requires c κs = turned-reach (c .before .before .before .loop .inv .0) (c .before .if1 .taken)
+string-loop-requires-2 : tie.Need-string-loop-requires-2
+string-loop-requires-2 c κs = (((c .before .before .before .before .before .before .before .before .pre .0 .0), rw ((c .before .before .before .input .given .1)) at ((c .before .before .before .before .before .before .before .before .pre .0 .1))), (c .before .before .before .before .before .before .before .before .pre .1))
 
-step-requires : tie.Need-step-requires Inv-loop μ-loop
-step-requires c κs = c .before .before .before .before .before .loop .inv .1
+enum-known-input-2 : tie.Need-enum-known-input-2
+enum-known-input-2 c = search needs
 
-write-sample-requires : tie.Need-write-sample-requires Inv-loop μ-loop
-write-sample-requires c κs =
-    let t = c .before .before .before .before .before .before .before .before in
-    turned-room (t .before .before .loop .inv .0) (t .if1 .taken)
+string-loop-requires-3 : tie.Need-string-loop-requires-3
+string-loop-requires-3 c κs = (((c .before .before .before .before .before .before .before .before .pre .0 .0), rw ((c .before .before .before .input2 .given .1)) at ((c .before .before .before .before .before .before .before .before .pre .0 .1))), (c .before .before .before .before .before .before .before .before .pre .1))
 
-add-i : tie.Need-add-i Inv-loop μ-loop
-add-i c = omega arith
+same-length : tie.Need-same-length
+same-length c = search needs
 
-loop-less : tie.Need-loop-less Inv-loop μ-loop
-loop-less c = omega arith
+same-length-2 : tie.Need-same-length-2
+same-length-2 c = search needs
 
-loop-again : tie.Need-loop-again Inv-loop μ-loop
-loop-again c =
-    let s = c .before .before .before .before .before .before .before in
-    let t = s .before .before .before .before in
-    let w = t .before .before in
-    let next = ap (λ (r : Step Strung). r .next) (s .step .ensures) in (
-      turned-more (w .loop .inv .0) (t .if1 .taken) (s .before .before .fetch .ensures) next (ap (λ (r : Step Strung). r .sample) (s .step .ensures))
-          (c .before .before .write-sample .ensures),
-      subst (InRing (w .before .before .before .before .args .k)) (sym next) (string-stays _ _ _ (w .loop .inv .1)),
-      ap (λ (r : Strung). length (r .ring)) next ∙ string-length _ _ _ ∙ w .loop .inv .2,
-    )
+returns : tie.Need-returns
+returns c = rw ((c .before .before .before .before .before .before .before .enum-told .given .1)) ((c .before .before .before .before .string-loop .ensures))
 
-same-length : tie.Need-same-length Inv-loop μ-loop
-same-length c = c .before .before .loop .inv .2
+same-length-3 : tie.Need-same-length-3
+same-length-3 c = search needs
 
-same-length-2 : tie.Need-same-length-2 Inv-loop μ-loop
-same-length-2 c = c .before .before .loop .inv .0 .runs .writes .long
+same-length-4 : tie.Need-same-length-4
+same-length-4 c = search needs
 
-returns : tie.Need-returns Inv-loop μ-loop
-returns c = turned-end (c .before .before .loop .inv .0) (c .if1 .left)
+returns-2 : tie.Need-returns-2
+returns-2 c = rw ((c .before .before .before .before .before .before .before .before .input .given .1)) ((c .before .before .before .before .string-loop2 .ensures))
+
+same-length-5 : tie.Need-same-length-5
+same-length-5 c = search needs
+
+same-length-6 : tie.Need-same-length-6
+same-length-6 c = search needs
+
+returns-3 : tie.Need-returns-3
+returns-3 c = rw ((c .before .before .before .before .before .before .before .before .input2 .given .1)) ((c .before .before .before .before .string-loop3 .ensures))
 
 pub string-window-spec : {M : Type 1} → statement M
 string-window-spec =
     tie.close
     (tie.spec
-    Inv-loop
-    μ-loop
-    loop-holds
-    fetch-requires
-    step-requires
-    write-sample-requires
-    add-i
-    loop-less
-    loop-again
+    enum-told
+    string-loop-requires
+    enum-known-input
+    string-loop-requires-2
+    enum-known-input-2
+    string-loop-requires-3
     same-length
     same-length-2
-    returns)
+    returns
+    same-length-3
+    same-length-4
+    returns-2
+    same-length-5
+    same-length-6
+    returns-3)
