@@ -19,76 +19,29 @@ const PARTS: u64 = 11;
 // No part has so many words: there is no such operation.
 pub const NONE: u64 = 9;
 
-const COUNTS: [u64; 55] = [
-    2,
-    0,
-    0,
-    0,
-    1,
-    0,
-    0,
-    1,
-    0,
-    1,
-    0,
-    0,
-    0,
-    0,
-    1,
-    0,
-    1,
-    9,
-    9,
-    9,
-    9,
-    9,
-    0,
-    0,
-    3,
-    0,
-    1,
-    1,
-    0,
-    2,
-    0,
-    9,
-    9,
-    2,
-    1,
-    0,
-    3,
-    1,
-    1,
-    2,
-    0,
-    9,
-    9,
-    9,
-    2,
-    0,
-    0,
-    1,
-    1,
-    1,
-    2,
-    0,
-    9,
-    9,
-    9,
-];
+const OF_RING: [u64; 11] = [2, 0, 0, 0, 1, 0, 0, 1, 0, 1, 0];
+
+const OF_SOFT_CLIP: [u64; 11] = [0, 0, 0, 1, 0, 1, 9, 9, 9, 9, 9];
+
+const OF_LOW_PASS: [u64; 11] = [0, 0, 3, 0, 1, 1, 0, 2, 0, 9, 9];
+
+const OF_COMB: [u64; 11] = [2, 1, 0, 3, 1, 1, 2, 0, 9, 9, 9];
+
+const OF_ALL_PASS: [u64; 11] = [2, 0, 0, 1, 1, 1, 2, 0, 9, 9, 9];
 
 pub fn count(sort: u64, part: u64) -> u64 {
-    if sort < 3 {
-        return NONE;
-    }
-    if sort > 7 {
-        return NONE;
-    }
     if part >= PARTS {
         return NONE;
     }
-    let at = (sort - 3) * PARTS + part;
-    COUNTS[at as usize]
+    let at = part as usize;
+    match sort {
+        3 => OF_RING[at],
+        4 => OF_SOFT_CLIP[at],
+        5 => OF_LOW_PASS[at],
+        6 => OF_COMB[at],
+        7 => OF_ALL_PASS[at],
+        _ => NONE,
+    }
 }
 
 // How many arguments an operation has.

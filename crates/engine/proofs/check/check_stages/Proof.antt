@@ -1,3 +1,4 @@
+-- `engine::check::check_stages` meets its contract: the stages so far have passed, with the marks as they leave them. Assumes nothing.
 use mathlib.Core.Path.{_≡_, refl, ap}
 use Prim.Native.Nat.{_-_}
 use native.Mathlib.Omega.{arith}

@@ -1,3 +1,4 @@
+-- `engine::check::judge` meets its contract: 1 to 4, then 5 to 7 along the order. Assumes nothing.
 use Rattle.engine.specs.Code.{planIn, worldIn}
 use mathlib.Core.List.{[]}
 use Rattle.engine.specs.Run.{entry}

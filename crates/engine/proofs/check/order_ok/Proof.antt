@@ -1,3 +1,4 @@
+-- `engine::check::order_ok` meets its contract: the length, then each number and its repeats. Assumes nothing.
 use mathlib.Core.Path.{_≡_, refl, ap, sym, _∙_}
 use Prim.Native.Nat.{_-_}
 use native.Mathlib.Omega.{arith}

@@ -1,3 +1,4 @@
+-- `engine::check::stage_fault` meets its contract: the first of 5, 6, 7 that fails, or none. Assumes nothing.
 use mathlib.Core.Path.{sym, ap, _∙_}
 use Rattle.magnetron.proofs.Tests.{holds, fails}
 use Rattle.microwave.specs.Parameter.{looked}

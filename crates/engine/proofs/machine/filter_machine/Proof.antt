@@ -1,3 +1,4 @@
+-- `engine::machine::filter_machine` meets its contract: in each arm the machine is known. Assumes nothing.
 use mathlib.Core.Path.{sym, ap, _∙_}
 use Rattle.microwave.specs.Filter.{machineOf}
 use Rattle.microwave.specs.declared.filter.Filter.{Filter}

@@ -1,3 +1,4 @@
+-- `engine::machine::oscillator_machine` meets its contract: its parts, as its callee answers them. Assumes nothing.
 use borrow.Author.Needs.{needs}
 use Rattle.engine.proofs.machine.oscillator_machine.Statement.{statement}
 use Rattle.engine.proofs.machine.oscillator_machine.Tie as tie

@@ -1,3 +1,4 @@
+-- `engine::run::render_window` meets its contract: the window's seconds are the width times n. Assumes nothing.
 use borrow.Author.Needs.{needs}
 use Rattle.engine.proofs.run.render_window.Statement.{statement}
 use Rattle.engine.proofs.run.render_window.Tie as tie

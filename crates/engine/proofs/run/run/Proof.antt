@@ -1,3 +1,4 @@
+-- `engine::run::run` meets its contract: refused as judged, or rendered along the order. Assumes nothing.
 use mathlib.Core.Path.{sym, ap, _∙_}
 use Rattle.magnetron.specs.declared.check.Verdict.{Verdict}
 use Rattle.engine.specs.Run.{leftBy, runOf}

@@ -1,3 +1,4 @@
+-- `engine::run::run_order` meets its contract: the invariant is that the stages so far are done as defined, and that those left still pass their checks (`Along`). Assumes nothing.
 use mathlib.Core.Path.{_≡_, refl, sym, ap, ap₂, _∙_}
 use Prim.Native.Nat.{_-_}
 use native.Mathlib.Omega.{arith}

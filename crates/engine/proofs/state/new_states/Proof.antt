@@ -1,3 +1,4 @@
+-- `engine::state::new_states` meets its contract: 32 times the same record. Assumes nothing.
 use borrow.Author.Needs.{needs}
 use Rattle.engine.proofs.state.new_states.Statement.{statement}
 use Rattle.engine.proofs.state.new_states.Tie as tie

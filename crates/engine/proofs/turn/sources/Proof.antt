@@ -1,3 +1,4 @@
+-- `engine::turn::sources` meets its contract: the sources of no, one or two inputs. Assumes nothing.
 use Rattle.magnetron.proofs.Putting.{only, former, latter}
 use borrow.Author.Needs.{needs}
 use Rattle.engine.proofs.turn.sources.Statement.{statement}

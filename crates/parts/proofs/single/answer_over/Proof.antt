@@ -1,3 +1,4 @@
+-- `parts::single::answer_over` is safe: what its callees are lent comes back as long as it was. Assumes nothing.
 use native.Mathlib.Omega.{arith}
 use borrow.Author.Needs.{needs}
 use Rattle.parts.proofs.single.answer_over.Statement.{statement}

@@ -1,49 +1,39 @@
+-- `replay::session::answer_over` is safe: what its callees are lent comes back as long as it was. Assumes nothing.
 use mathlib.Core.Path.{_∙_}
 use borrow.Author.Needs.{needs}
 use Rattle.replay.proofs.session.answer_over.Statement.{statement}
 use Rattle.replay.proofs.session.answer_over.Tie as tie
 
--- src/session.rt:125:9
 read-contents-requires : tie.Need-read-contents-requires
 read-contents-requires c κs = search needs
 
--- src/session.rt:126:18
 read-samples-requires : tie.Need-read-samples-requires
 read-samples-requires c κs = search needs
 
--- src/session.rt:126:9
 read-samples-requires-2 : tie.Need-read-samples-requires-2
 read-samples-requires-2 c κs = search needs
 
--- src/session.rt:129:9
 read-session-requires : tie.Need-read-session-requires
 read-session-requires c κs = search needs
 
--- src/session.rt:130:5
 answer-windows-requires : tie.Need-answer-windows-requires
 answer-windows-requires c κs = search needs
 
--- src/session.rt:113:1
 same-length : tie.Need-same-length
 same-length c = (c .before .before .before .before .before .before .before .before .answer-windows .kept .1 .1 .1 .1 .0) ∙ (c .before .before .before .before .before .before .before .before .before .before .before .before .before .before .before .before .before .before .before .before .before .before .before .before .before .before .before .before .before .before .before .before .before .before .read-contents .kept .1 .1 .0)
 
--- src/session.rt:113:1
 same-length-2 : tie.Need-same-length-2
 same-length-2 c = (c .before .before .before .before .before .before .before .before .answer-windows .kept .1 .1 .1 .1 .1 .0) ∙ (c .before .before .before .before .before .before .before .before .before .before .before .before .before .before .before .before .before .before .before .before .before .before .before .before .before .before .before .before .before .before .before .before .before .before .read-contents .kept .1 .1 .1 .0)
 
--- src/session.rt:113:1
 same-length-3 : tie.Need-same-length-3
 same-length-3 c = (c .before .before .before .before .before .before .before .before .before .before .before .before .before .before .before .before .before .before .before .before .before .before .before .before .before .before .before .before .before .before .before .before .before .before .read-contents .kept .1 .1 .1 .1 .0)
 
--- src/session.rt:113:1
 same-length-4 : tie.Need-same-length-4
 same-length-4 c = (c .before .before .before .before .before .before .before .before .answer-windows .kept .1 .1 .1 .1 .1 .1 .1 .0) ∙ (c .before .before .before .before .before .before .before .before .before .before .before .before .before .before .before .before .before .before .before .before .before .before .before .before .before .read-samples .kept .1 .1 .0)
 
--- src/session.rt:113:1
 same-length-5 : tie.Need-same-length-5
 same-length-5 c = search needs
 
--- src/session.rt:113:1
 returns : tie.Need-returns
 returns c = search needs
 

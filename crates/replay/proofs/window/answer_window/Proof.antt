@@ -1,49 +1,39 @@
+-- `replay::window::answer_window` is safe: what its callees are lent comes back as long as it was. Assumes nothing.
 use mathlib.Core.Path.{_∙_}
 use borrow.Author.Needs.{needs}
 use Rattle.replay.proofs.window.answer_window.Statement.{statement}
 use Rattle.replay.proofs.window.answer_window.Tie as tie
 
--- src/window.rt:67:9
 read-window-requires : tie.Need-read-window-requires
 read-window-requires c κs = search needs
 
--- src/window.rt:71:9
 same-length : tie.Need-same-length
 same-length c = search needs
 
--- src/window.rt:71:9
 same-length-2 : tie.Need-same-length-2
 same-length-2 c = search needs
 
--- src/window.rt:71:9
 returns : tie.Need-returns
 returns c = search needs
 
--- src/window.rt:77:9
 render-requires : tie.Need-render-requires
 render-requires c κs = search needs
 
--- src/window.rt:88:5
 write-answer-requires : tie.Need-write-answer-requires
 write-answer-requires c κs = search needs
 
--- src/window.rt:55:1
 same-length-3 : tie.Need-same-length-3
 same-length-3 c = search needs
 
--- src/window.rt:55:1
 same-length-4 : tie.Need-same-length-4
 same-length-4 c = (c .before .before .before .before .before .before .before .before .before .before .before .render .kept .1 .1 .1 .1 .1 .0) ∙ (c .before .before .before .before .before .before .before .before .before .before .before .before .before .before .before .before .before .before .before .before .before .before .before .read-window .kept .1 .1 .1 .0)
 
--- src/window.rt:55:1
 same-length-5 : tie.Need-same-length-5
 same-length-5 c = (c .before .before .before .before .before .before .before .before .before .before .before .before .before .before .before .before .before .before .before .before .before .before .before .read-window .kept .1 .1 .1 .1 .0)
 
--- src/window.rt:55:1
 same-length-6 : tie.Need-same-length-6
 same-length-6 c = search needs
 
--- src/window.rt:55:1
 returns-2 : tie.Need-returns-2
 returns-2 c = search needs
 

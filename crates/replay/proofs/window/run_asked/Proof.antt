@@ -1,3 +1,4 @@
+-- `replay::window::run_asked` is safe: the parts that are lent lie in their arrays. Assumes nothing.
 use mathlib.Core.Path.{_≡_, sym, _∙_}
 use Prim.Native.Nat.{_≤_}
 use native.Mathlib.Omega.{arith}
@@ -6,19 +7,15 @@ use borrow.Author.Needs.{needs}
 use Rattle.replay.proofs.window.run_asked.Statement.{statement}
 use Rattle.replay.proofs.window.run_asked.Tie as tie
 
--- src/window.rt:242:9
 patch-of-requires : tie.Need-patch-of-requires
 patch-of-requires c κs = search needs
 
--- src/window.rt:243:9
 sub-run : tie.Need-sub-run
 sub-run c = search needs
 
--- src/window.rt:243:9
 part-run-start : tie.Need-part-run-start
 part-run-start c = search needs
 
--- src/window.rt:243:9
 part-run-end : tie.Need-part-run-end
 part-run-end c =
     let s = c .before .before .before .before .before .before .before .before in
@@ -27,23 +24,18 @@ part-run-end c =
     let fits : s .args .asked .length ≤ length (s .args .asked .order) = omega arith in
     fits
 
--- src/window.rt:241:5
 run-requires : tie.Need-run-requires
 run-requires c κs = search needs
 
--- src/window.rt:226:1
 same-length : tie.Need-same-length
 same-length c = search needs
 
--- src/window.rt:226:1
 same-length-2 : tie.Need-same-length-2
 same-length-2 c = search needs
 
--- src/window.rt:226:1
 same-length-3 : tie.Need-same-length-3
 same-length-3 c = search needs
 
--- src/window.rt:226:1
 returns : tie.Need-returns
 returns c = search needs
 

@@ -1,3 +1,4 @@
+-- `engine::machine::Machine::play` meets its contract: each arm is its window's contract; the other parts of the state stay. Assumes nothing.
 use mathlib.Core.Path.{refl}
 use Rattle.engine.proofs.Lens.{lifted, phases, onePole, biquad, string, plain-stepped}
 use borrow.Author.Needs.{needs}

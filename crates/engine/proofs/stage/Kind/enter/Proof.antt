@@ -1,3 +1,4 @@
+-- `engine::machine::Kind::enter` meets its contract: in each arm the kind is known; oscillators alone keep something. Assumes nothing.
 use borrow.Author.Needs.{needs}
 use Rattle.engine.proofs.stage.Kind.enter.Statement.{statement}
 use Rattle.engine.proofs.stage.Kind.enter.Tie as tie

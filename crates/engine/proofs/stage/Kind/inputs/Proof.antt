@@ -1,3 +1,4 @@
+-- `engine::stage::Kind::inputs` meets its contract: in each arm the kind is known. Assumes nothing.
 use borrow.Author.Needs.{needs}
 use Rattle.engine.proofs.stage.Kind.inputs.Statement.{statement}
 use Rattle.engine.proofs.stage.Kind.inputs.Tie as tie

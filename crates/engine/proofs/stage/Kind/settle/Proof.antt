@@ -1,3 +1,4 @@
+-- `engine::machine::Kind::settle` meets its contract: in each arm the kind is known, and so is its machine. Assumes nothing.
 use borrow.Author.Needs.{needs}
 use Rattle.engine.proofs.stage.Kind.settle.Statement.{statement}
 use Rattle.engine.proofs.stage.Kind.settle.Tie as tie

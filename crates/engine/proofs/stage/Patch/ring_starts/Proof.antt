@@ -1,3 +1,4 @@
+-- `engine::rings::Patch::ring_starts` meets its contract: each start is the sum of the lengths before it. Assumes nothing.
 use mathlib.Core.Path.{_≡_, refl, sym, _∙_}
 use Prim.Native.Nat.{ℕ, _-_, _<_}
 use native.Mathlib.Omega.{arith}

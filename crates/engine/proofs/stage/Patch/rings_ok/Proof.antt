@@ -1,3 +1,4 @@
+-- `engine::rings::Patch::rings_ok` meets its contract: a ring at fault, or the sum of all lengths against the room. Assumes nothing.
 use mathlib.Core.Path.{_≡_}
 use mathlib.Core.Bool.{true}
 use Prim.Native.Nat.{_-_}

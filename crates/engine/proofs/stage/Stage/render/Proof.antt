@@ -1,3 +1,4 @@
+-- `engine::turn::Stage::render` meets its contract: the machine that the numbers settle, played on the sources. Assumes nothing.
 use Rattle.microwave.specs.Parameter.{numbersOf}
 use Rattle.engine.proofs.Turns.{output-small, inputs-placed, playable, rendered}
 use borrow.Author.Needs.{needs}

@@ -1,3 +1,4 @@
+-- `engine::rings::Stage::ring_fine` meets its contract: the bound, then the position. Assumes nothing.
 use mathlib.Core.Path.{ap}
 use borrow.Author.Tests.{lt-leb, le-leb}
 use Rattle.engine.proofs.EndToEnd.{no-ring}

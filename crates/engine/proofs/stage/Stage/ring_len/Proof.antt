@@ -1,3 +1,4 @@
+-- `engine::rings::Stage::ring_len` meets its contract: one more than buffer_size, or nothing. Assumes nothing.
 use native.Mathlib.Omega.{arith}
 use Rattle.engine.specs.Stage.{newState}
 use Rattle.engine.proofs.EndToEnd.{no-ring}

@@ -1,3 +1,4 @@
+-- `engine::turn::Stage::turn` meets its contract: the output's kind picks the pool that is written, in the code and in the definition. Assumes nothing.
 use Rattle.engine.proofs.Turns.{ready-at, turned-at}
 use borrow.Author.Needs.{needs}
 use Rattle.engine.proofs.stage.Stage.turn.Statement.{statement}

@@ -1,3 +1,4 @@
+-- `engine::machine::State::saving` meets its contract: the saved phase changes, and nothing else. Assumes nothing.
 use borrow.Author.Needs.{needs}
 use Rattle.engine.proofs.state.State.saving.Statement.{statement}
 use Rattle.engine.proofs.state.State.saving.Tie as tie
