@@ -1,8 +1,7 @@
 -- Each public contract of `magnetron` determines what is seen of a call: its result and every slice that it may change. `Reads.Post`, which Rattle
 -- makes of a function's `ensures`, is the contract itself: no copy of it is written here. Assumes nothing.
-use contract.Lifetimes.{Lfts}
 use denote.Ref.{now}
-use Rattle.numbers.specs.Outcome.{Determined, by-definition, outcome}
+use Rattle.numbers.specs.Outcome.{Answer, Determined, by-definition, outcome}
 use Rattle.magnetron.specs.Single.{left}
 use Rattle.magnetron.proofs.stage.rank.Reads as rank
 use Rattle.magnetron.proofs.stage.greater.Reads as greater
@@ -36,95 +35,39 @@ use Rattle.magnetron.proofs.write.read_2_write_1.Reads as read-2-write-
 use Rattle.magnetron.proofs.read.check_read.Reads as check-read
 use Rattle.magnetron.proofs.read.read.Reads as read
 
-pub rank-determined : (κs : Lfts 0) → Determined (rank.Post κs) (λ r s. r)
-rank-determined κs = by-definition _ (λ a r s p. p)
+pub stage-determined : Answer rank.Post × Answer greater.Post
+stage-determined = (by-definition, by-definition)
 
-pub greater-determined : (κs : Lfts 0) → Determined (greater.Post κs) (λ r s. r)
-greater-determined κs = by-definition _ (λ a r s p. p)
+pub buffer-determined : Answer stage-activity.Post × Answer same-buffer.Post × Answer at.Post × Answer written.Post
+buffer-determined = (by-definition, by-definition, by-definition, by-definition)
 
-pub stage-activity-determined : (κs : Lfts 0) → Determined (stage-activity.Post κs) (λ r s. r)
-stage-activity-determined κs = by-definition _ (λ a r s p. p)
+pub pool-determined : Answer marks.Post × Answer with-marks.Post × Answer set-reset.Post × Answer base-of.Post
+    × Determined (λ r s. outcome r (now (s .1 .1 .0))) new-pool.Post × Answer prepare.Post
+pool-determined = (by-definition, by-definition, by-definition, by-definition, by-definition, by-definition)
 
-pub same-buffer-determined : (κs : Lfts 0) → Determined (same-buffer.Post κs) (λ r s. r)
-same-buffer-determined κs = by-definition _ (λ a r s p. p)
+pub check-determined : Answer done.Post × Answer refusal.Post × Answer pool-ok.Post × Answer shape-ok.Post × Answer window-ok.Post × Answer has.Post
+    × Answer all-there.Post × Answer is-input.Post × Answer no-clash.Post × Answer check-prepare.Post
+check-determined = (
+  by-definition,
+  by-definition,
+  by-definition,
+  by-definition,
+  by-definition,
+  by-definition,
+  by-definition,
+  by-definition,
+  by-definition,
+  by-definition,
+)
 
-pub at-determined : (κs : Lfts 0) → Determined (at.Post κs) (λ r s. r)
-at-determined κs = by-definition _ (λ a r s p. p)
+pub input-determined : Answer source.Post × Answer fetch.Post
+input-determined = (by-definition, by-definition)
 
-pub written-determined : (κs : Lfts 0) → Determined (written.Post κs) (λ r s. r)
-written-determined κs = by-definition _ (λ a r s p. p)
+pub write-determined : Answer mix.Post × Determined (λ r s. left r (now (s .1 .0)) (now (s .1 .1 .0))) write-1.Post
+    × Determined (λ r s. left r (now (s .1 .0)) (now (s .1 .1 .0))) read-0-write-1.Post
+    × Determined (λ r s. left r (now (s .1 .0)) (now (s .1 .1 .0))) read-1-write-1.Post
+    × Determined (λ r s. left r (now (s .1 .0)) (now (s .1 .1 .0))) read-2-write-1.Post
+write-determined = (by-definition, by-definition, by-definition, by-definition, by-definition)
 
-pub marks-determined : (κs : Lfts 0) → Determined (marks.Post κs) (λ r s. r)
-marks-determined κs = by-definition _ (λ a r s p. p)
-
-pub with-marks-determined : (κs : Lfts 0) → Determined (with-marks.Post κs) (λ r s. r)
-with-marks-determined κs = by-definition _ (λ a r s p. p)
-
-pub set-reset-determined : (κs : Lfts 0) → Determined (set-reset.Post κs) (λ r s. r)
-set-reset-determined κs = by-definition _ (λ a r s p. p)
-
-pub base-of-determined : (κs : Lfts 0) → Determined (base-of.Post κs) (λ r s. r)
-base-of-determined κs = by-definition _ (λ a r s p. p)
-
-pub new-pool-determined : (κs : Lfts 1) → Determined (new-pool.Post κs) (λ r s. outcome r (now (s .1 .1 .0)))
-new-pool-determined κs = by-definition _ (λ a r s p. p)
-
-pub prepare-determined : (κs : Lfts 3) → Determined (prepare.Post κs) (λ r s. r)
-prepare-determined κs = by-definition _ (λ a r s p. p)
-
-pub done-determined : (κs : Lfts 0) → Determined (done.Post κs) (λ r s. r)
-done-determined κs = by-definition _ (λ a r s p. p)
-
-pub refusal-determined : (κs : Lfts 0) → Determined (refusal.Post κs) (λ r s. r)
-refusal-determined κs = by-definition _ (λ a r s p. p)
-
-pub pool-ok-determined : (κs : Lfts 0) → Determined (pool-ok.Post κs) (λ r s. r)
-pool-ok-determined κs = by-definition _ (λ a r s p. p)
-
-pub shape-ok-determined : (κs : Lfts 1) → Determined (shape-ok.Post κs) (λ r s. r)
-shape-ok-determined κs = by-definition _ (λ a r s p. p)
-
-pub window-ok-determined : (κs : Lfts 0) → Determined (window-ok.Post κs) (λ r s. r)
-window-ok-determined κs = by-definition _ (λ a r s p. p)
-
-pub has-determined : (κs : Lfts 0) → Determined (has.Post κs) (λ r s. r)
-has-determined κs = by-definition _ (λ a r s p. p)
-
-pub all-there-determined : (κs : Lfts 0) → Determined (all-there.Post κs) (λ r s. r)
-all-there-determined κs = by-definition _ (λ a r s p. p)
-
-pub is-input-determined : (κs : Lfts 0) → Determined (is-input.Post κs) (λ r s. r)
-is-input-determined κs = by-definition _ (λ a r s p. p)
-
-pub no-clash-determined : (κs : Lfts 0) → Determined (no-clash.Post κs) (λ r s. r)
-no-clash-determined κs = by-definition _ (λ a r s p. p)
-
-pub check-prepare-determined : (κs : Lfts 3) → Determined (check-prepare.Post κs) (λ r s. r)
-check-prepare-determined κs = by-definition _ (λ a r s p. p)
-
-pub source-determined : (κs : Lfts 0) → Determined (source.Post κs) (λ r s. r)
-source-determined κs = by-definition _ (λ a r s p. p)
-
-pub fetch-determined : (κs : Lfts 2) → Determined (fetch.Post κs) (λ r s. r)
-fetch-determined κs = by-definition _ (λ a r s p. p)
-
-pub mix-determined : (κs : Lfts 0) → Determined (mix.Post κs) (λ r s. r)
-mix-determined κs = by-definition _ (λ a r s p. p)
-
-pub write-1-determined : (κs : Lfts 4) → Determined (write-1.Post κs) (λ r s. left r (now (s .1 .0)) (now (s .1 .1 .0)))
-write-1-determined κs = by-definition _ (λ a r s p. p)
-
-pub read-0-write-1-determined : (κs : Lfts 4) → Determined (read-0-write-1.Post κs) (λ r s. left r (now (s .1 .0)) (now (s .1 .1 .0)))
-read-0-write-1-determined κs = by-definition _ (λ a r s p. p)
-
-pub read-1-write-1-determined : (κs : Lfts 3) → Determined (read-1-write-1.Post κs) (λ r s. left r (now (s .1 .0)) (now (s .1 .1 .0)))
-read-1-write-1-determined κs = by-definition _ (λ a r s p. p)
-
-pub read-2-write-1-determined : (κs : Lfts 3) → Determined (read-2-write-1.Post κs) (λ r s. left r (now (s .1 .0)) (now (s .1 .1 .0)))
-read-2-write-1-determined κs = by-definition _ (λ a r s p. p)
-
-pub check-read-determined : (κs : Lfts 3) → Determined (check-read.Post κs) (λ r s. r)
-check-read-determined κs = by-definition _ (λ a r s p. p)
-
-pub read-determined : (κs : Lfts 1) → Determined (read.Post κs) (λ r s. now r)
-read-determined κs = by-definition _ (λ a r s p. p)
+pub read-determined : Answer check-read.Post × Determined (λ r s. now r) read.Post
+read-determined = (by-definition, by-definition)

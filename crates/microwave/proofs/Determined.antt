@@ -1,9 +1,8 @@
 -- Each public contract determines what is seen of a call: the result, and what each lent slice holds then. `Reads.Post`, which Rattle makes of the function's `ensures`,
 -- is the contract itself: no copy of it is written here. Assumes nothing.
 use mathlib.Core.Path.{sym, ap, _∙_}
-use contract.Lifetimes.{Lfts}
 use denote.Ref.{now}
-use Rattle.numbers.specs.Outcome.{Determined, by-definition, outcome, both}
+use Rattle.numbers.specs.Outcome.{Answer, Determined, as-follows, by-definition, outcome, both}
 use Rattle.microwave.specs.Waveguide.{strung}
 use Rattle.microwave.proofs.Asked.{asked, as-asked}
 use Rattle.microwave.proofs.parameter.lookup.Reads as lookup
@@ -30,71 +29,28 @@ use Rattle.microwave.proofs.window.one_pole_window.Reads as one-pole-wi
 use Rattle.microwave.proofs.window.biquad_window.Reads as biquad-window
 use Rattle.microwave.proofs.window.string_window.Reads as string-window
 
-pub lookup-determined : (κs : Lfts 1) → Determined (lookup.Post κs) (λ r s. r)
-lookup-determined κs = by-definition _ (λ a r s p. p)
+pub parameter-determined : Answer lookup.Post × Answer required.Post × Answer or-zero.Post × Answer missing.Post × Answer numbers-found.Post
+parameter-determined = (by-definition, by-definition, by-definition, by-definition, by-definition)
 
-pub required-determined : (κs : Lfts 0) → Determined (required.Post κs) (λ r s. r)
-required-determined κs = by-definition _ (λ a r s p. p)
+pub plain-determined : Answer clip-limit.Post × Answer shaped.Post
+plain-determined = (by-definition, by-definition)
 
-pub or-zero-determined : (κs : Lfts 0) → Determined (or-zero.Post κs) (λ r s. r)
-or-zero-determined κs = by-definition _ (λ a r s p. p)
+pub oscillator-determined : Answer driven.Post × Answer wave.Post × Answer d-phase.Post × Answer enter.Post × Answer oscillator-step.Post
+oscillator-determined = (by-definition, by-definition, by-definition, by-definition, by-definition)
 
-pub missing-determined : (κs : Lfts 1) → Determined (missing.Post κs) (λ r s. r)
-missing-determined κs = by-definition _ (λ a r s p. p)
+pub filter-determined : Answer asks.Post × Answer with-numbers.Post × Answer coefficients.Post × Answer one-pole-step.Post × Answer biquad-step.Post
+filter-determined = (as-follows (λ κs a r s p. sym (as-asked r) ∙ ap asked p), by-definition, by-definition, by-definition, by-definition)
 
-pub numbers-found-determined : (κs : Lfts 1) → Determined (numbers-found.Post κs) (λ r s. r)
-numbers-found-determined κs = by-definition _ (λ a r s p. p)
+pub waveguide-determined : Answer guide-of.Post
+waveguide-determined = by-definition
 
-pub clip-limit-determined : (κs : Lfts 0) → Determined (clip-limit.Post κs) (λ r s. r)
-clip-limit-determined κs = by-definition _ (λ a r s p. p)
-
-pub shaped-determined : (κs : Lfts 0) → Determined (shaped.Post κs) (λ r s. r)
-shaped-determined κs = by-definition _ (λ a r s p. p)
-
-pub driven-determined : (κs : Lfts 0) → Determined (driven.Post κs) (λ r s. r)
-driven-determined κs = by-definition _ (λ a r s p. p)
-
-pub wave-determined : (κs : Lfts 0) → Determined (wave.Post κs) (λ r s. r)
-wave-determined κs = by-definition _ (λ a r s p. p)
-
-pub d-phase-determined : (κs : Lfts 0) → Determined (d-phase.Post κs) (λ r s. r)
-d-phase-determined κs = by-definition _ (λ a r s p. p)
-
-pub enter-determined : (κs : Lfts 0) → Determined (enter.Post κs) (λ r s. r)
-enter-determined κs = by-definition _ (λ a r s p. p)
-
-pub oscillator-step-determined : (κs : Lfts 0) → Determined (oscillator-step.Post κs) (λ r s. r)
-oscillator-step-determined κs = by-definition _ (λ a r s p. p)
-
-pub asks-determined : (κs : Lfts 0) → Determined (asks.Post κs) (λ r s. r)
-asks-determined κs = by-definition _ (λ a r s p. sym (as-asked r) ∙ ap asked p)
-
-pub with-numbers-determined : (κs : Lfts 0) → Determined (with-numbers.Post κs) (λ r s. r)
-with-numbers-determined κs = by-definition _ (λ a r s p. p)
-
-pub coefficients-determined : (κs : Lfts 0) → Determined (coefficients.Post κs) (λ r s. r)
-coefficients-determined κs = by-definition _ (λ a r s p. p)
-
-pub one-pole-step-determined : (κs : Lfts 0) → Determined (one-pole-step.Post κs) (λ r s. r)
-one-pole-step-determined κs = by-definition _ (λ a r s p. p)
-
-pub biquad-step-determined : (κs : Lfts 0) → Determined (biquad-step.Post κs) (λ r s. r)
-biquad-step-determined κs = by-definition _ (λ a r s p. p)
-
-pub guide-of-determined : (κs : Lfts 0) → Determined (guide-of.Post κs) (λ r s. r)
-guide-of-determined κs = by-definition _ (λ a r s p. p)
-
-pub plain-window-determined : (κs : Lfts 2) → Determined (plain-window.Post κs) (λ r s. now (s .1 .0))
-plain-window-determined κs = by-definition _ (λ a r s p. p)
-
-pub oscillator-window-determined : (κs : Lfts 2) → Determined (oscillator-window.Post κs) (λ r s. outcome r (now (s .1 .1 .0)))
-oscillator-window-determined κs = by-definition _ (λ a r s p. both (p .state) (p .samples))
-
-pub one-pole-window-determined : (κs : Lfts 2) → Determined (one-pole-window.Post κs) (λ r s. outcome r (now (s .1 .1 .0)))
-one-pole-window-determined κs = by-definition _ (λ a r s p. both (p .state) (p .samples))
-
-pub biquad-window-determined : (κs : Lfts 2) → Determined (biquad-window.Post κs) (λ r s. outcome r (now (s .1 .1 .0)))
-biquad-window-determined κs = by-definition _ (λ a r s p. both (p .state) (p .samples))
-
-pub string-window-determined : (κs : Lfts 3) → Determined (string-window.Post κs) (λ r s. outcome (strung r (now (s .1 .1 .0))) (now (s .1 .1 .1 .0)))
-string-window-determined κs = by-definition _ (λ a r s p. both (p .state) (p .samples))
+pub window-determined : Determined (λ r s. now (s .1 .0)) plain-window.Post × Determined (λ r s. outcome r (now (s .1 .1 .0))) oscillator-window.Post
+    × Determined (λ r s. outcome r (now (s .1 .1 .0))) one-pole-window.Post × Determined (λ r s. outcome r (now (s .1 .1 .0))) biquad-window.Post
+    × Determined (λ r s. outcome (strung r (now (s .1 .1 .0))) (now (s .1 .1 .1 .0))) string-window.Post
+window-determined = (
+  by-definition,
+  as-follows (λ κs a r s p. both (p .state) (p .samples)),
+  as-follows (λ κs a r s p. both (p .state) (p .samples)),
+  as-follows (λ κs a r s p. both (p .state) (p .samples)),
+  as-follows (λ κs a r s p. both (p .state) (p .samples)),
+)

@@ -1,7 +1,6 @@
 -- Each public contract of `numbers` determines the result, which is all that is seen of a call: nothing is lent to be changed.
 -- `Reads.Post`, which Rattle makes of a function's `ensures`, is the contract itself: no copy of it is written here. Assumes nothing.
-use contract.Lifetimes.{Lfts}
-use Rattle.numbers.specs.Outcome.{Determined, by-definition}
+use Rattle.numbers.specs.Outcome.{Answer, by-definition}
 use Rattle.numbers.proofs.small.maximum.Reads as maximum
 use Rattle.numbers.proofs.small.minimum.Reads as minimum
 use Rattle.numbers.proofs.small.held.Reads as held
@@ -21,56 +20,26 @@ use Rattle.numbers.proofs.turns.sine_turns.Reads as sine-turns
 use Rattle.numbers.proofs.turns.cosine_turns.Reads as cosine-turns
 use Rattle.numbers.proofs.zeros.all_plus_zero.Reads as all-plus-zero
 
-pub maximum-determined : (κs : Lfts 0) → Determined (maximum.Post κs) (λ r s. r)
-maximum-determined κs = by-definition _ (λ a r s p. p)
+pub small-determined : Answer maximum.Post × Answer minimum.Post × Answer held.Post × Answer is-negative.Post × Answer absolute.Post
+    × Answer copysign.Post × Answer recip.Post × Answer whole-part.Post × Answer fract.Post × Answer rem-euclid-one.Post
+small-determined = (
+  by-definition,
+  by-definition,
+  by-definition,
+  by-definition,
+  by-definition,
+  by-definition,
+  by-definition,
+  by-definition,
+  by-definition,
+  by-definition,
+)
 
-pub minimum-determined : (κs : Lfts 0) → Determined (minimum.Post κs) (λ r s. r)
-minimum-determined κs = by-definition _ (λ a r s p. p)
+pub ceil-determined : Answer round-up.Post × Answer rounded-up.Post
+ceil-determined = (by-definition, by-definition)
 
-pub held-determined : (κs : Lfts 0) → Determined (held.Post κs) (λ r s. r)
-held-determined κs = by-definition _ (λ a r s p. p)
+pub turns-determined : Answer horner.Post × Answer sine-sum.Post × Answer cosine-sum.Post × Answer sine-turns.Post × Answer cosine-turns.Post
+turns-determined = (by-definition, by-definition, by-definition, by-definition, by-definition)
 
-pub is-negative-determined : (κs : Lfts 0) → Determined (is-negative.Post κs) (λ r s. r)
-is-negative-determined κs = by-definition _ (λ a r s p. p)
-
-pub absolute-determined : (κs : Lfts 0) → Determined (absolute.Post κs) (λ r s. r)
-absolute-determined κs = by-definition _ (λ a r s p. p)
-
-pub copysign-determined : (κs : Lfts 0) → Determined (copysign.Post κs) (λ r s. r)
-copysign-determined κs = by-definition _ (λ a r s p. p)
-
-pub recip-determined : (κs : Lfts 0) → Determined (recip.Post κs) (λ r s. r)
-recip-determined κs = by-definition _ (λ a r s p. p)
-
-pub whole-part-determined : (κs : Lfts 0) → Determined (whole-part.Post κs) (λ r s. r)
-whole-part-determined κs = by-definition _ (λ a r s p. p)
-
-pub fract-determined : (κs : Lfts 0) → Determined (fract.Post κs) (λ r s. r)
-fract-determined κs = by-definition _ (λ a r s p. p)
-
-pub rem-euclid-one-determined : (κs : Lfts 0) → Determined (rem-euclid-one.Post κs) (λ r s. r)
-rem-euclid-one-determined κs = by-definition _ (λ a r s p. p)
-
-pub round-up-determined : (κs : Lfts 0) → Determined (round-up.Post κs) (λ r s. r)
-round-up-determined κs = by-definition _ (λ a r s p. p)
-
-pub rounded-up-determined : (κs : Lfts 0) → Determined (rounded-up.Post κs) (λ r s. r)
-rounded-up-determined κs = by-definition _ (λ a r s p. p)
-
-pub horner-determined : (κs : Lfts 1) → Determined (horner.Post κs) (λ r s. r)
-horner-determined κs = by-definition _ (λ a r s p. p)
-
-pub sine-sum-determined : (κs : Lfts 0) → Determined (sine-sum.Post κs) (λ r s. r)
-sine-sum-determined κs = by-definition _ (λ a r s p. p)
-
-pub cosine-sum-determined : (κs : Lfts 0) → Determined (cosine-sum.Post κs) (λ r s. r)
-cosine-sum-determined κs = by-definition _ (λ a r s p. p)
-
-pub sine-turns-determined : (κs : Lfts 0) → Determined (sine-turns.Post κs) (λ r s. r)
-sine-turns-determined κs = by-definition _ (λ a r s p. p)
-
-pub cosine-turns-determined : (κs : Lfts 0) → Determined (cosine-turns.Post κs) (λ r s. r)
-cosine-turns-determined κs = by-definition _ (λ a r s p. p)
-
-pub all-plus-zero-determined : (κs : Lfts 1) → Determined (all-plus-zero.Post κs) (λ r s. r)
-all-plus-zero-determined κs = by-definition _ (λ a r s p. p)
+pub zeros-determined : Answer all-plus-zero.Post
+zeros-determined = by-definition

@@ -8,10 +8,10 @@ use prog.Memory.{Memory}
 use prog.Routine.{Routine}
 use prog.Wp.{Heap}
 use ghost.Atoms.{Atoms}
-use contract.Lifetimes.{Lfts}
 use contract.Monad.{Fun, fact}
 use denote.Ref.{RefT, now}
-use Rattle.numbers.specs.Outcome.{Determined, by-definition, outcome, both}
+use contract.Lifetimes.{Lfts}
+use Rattle.numbers.specs.Outcome.{Answer, Determined, as-follows, by-definition, outcome, both}
 use Rattle.magnetron.specs.declared.check.Verdict.{Verdict}
 use Rattle.util.specs.declared.delay_line.Cursor.{Cursor}
 use Rattle.util.specs.declared.soft_clip.SoftClip.{SoftClip}
@@ -58,107 +58,64 @@ use Rattle.util.proofs.all_pass.AllPassDelay.process_sample_fract.Reads
 use Rattle.util.proofs.all_pass.AllPassDelay.mute.Reads as all-pass-mute
 use Rattle.util.proofs.lent.advance_lent as lent
 
-pub delay-at-determined : (κs : Lfts 0) → Determined (delay-at.Post κs) (λ r s. r)
-delay-at-determined κs = by-definition _ (λ a r s p. p)
+pub delay-line-determined : Answer delay-at.Post × Answer slot-after.Post × Answer heard-at.Post × Answer advance.Post
+    × Determined (λ r s. outcome r (now (s .1 .0))) write.Post × Answer get-delayed.Post × Answer get-delayed-fract.Post
+    × Determined (λ r s. outcome r (now (s .1 .0))) mute.Post
+delay-line-determined = (
+  by-definition,
+  as-follows (λ κs a r s p. p .0),
+  by-definition,
+  by-definition,
+  by-definition,
+  by-definition,
+  by-definition,
+  by-definition,
+)
 
-pub slot-after-determined : (κs : Lfts 0) → Determined (slot-after.Post κs) (λ r s. r)
-slot-after-determined κs = by-definition _ (λ a r s p. p .0)
+pub soft-clip-determined : Answer soft-clip.Post × Answer soft-clip-delay.Post × Answer soft-clip-mute.Post
+soft-clip-determined = (
+  as-follows (λ κs a r s p. ap (λ (t : Step SoftClip). record { clip = t .next; sample = t .sample }) p),
+  by-definition,
+  by-definition,
+)
 
-pub heard-at-determined : (κs : Lfts 1) → Determined (heard-at.Post κs) (λ r s. r)
-heard-at-determined κs = by-definition _ (λ a r s p. p)
+pub low-pass-determined : Answer damping.Post × Answer low-pass-new.Post × Answer low-pass-cutoff.Post × Answer low-pass.Post
+    × Answer low-pass-delay.Post × Answer low-pass-mute.Post
+low-pass-determined = (
+  by-definition,
+  by-definition,
+  by-definition,
+  as-follows (λ κs a r s p. ap (λ (t : Step OnePoleLowPass). record { filter = t .next; sample = t .sample }) p),
+  by-definition,
+  by-definition,
+)
 
-pub advance-determined : (κs : Lfts 0) → Determined (advance.Post κs) (λ r s. r)
-advance-determined κs = by-definition _ (λ a r s p. p)
+pub interaction-determined : Answer low-pass-gain.Post × Answer low-pass-gain-delay.Post × Answer low-pass-gain-mute.Post × Answer response.Post
+    × Answer response-delay.Post × Answer response-mute.Post × Answer limit.Post × Answer limit-delay.Post × Answer limit-mute.Post
+interaction-determined = (
+  as-follows (λ κs a r s p. ap (λ (t : Step LowPassGain). record { next = t .next; sample = t .sample }) p),
+  by-definition,
+  by-definition,
+  as-follows (λ κs a r s p. ap (λ (t : Step Response). record { response = t .next; sample = t .sample }) p),
+  by-definition,
+  by-definition,
+  as-follows (λ κs a r s p. ap (λ (t : Step Limit). record { limit = t .next; sample = t .sample }) p),
+  by-definition,
+  by-definition,
+)
 
-pub write-determined : (κs : Lfts 1) → Determined (write.Post κs) (λ r s. outcome r (now (s .1 .0)))
-write-determined κs = by-definition _ (λ a r s p. p)
+pub comb-filter-determined : Determined (λ r s. outcome r (now (s .1 .0))) comb.Post × Determined (λ r s. outcome r (now (s .1 .0))) comb-fract.Post
+    × Determined (λ r s. outcome r (now (s .1 .0))) comb-mute.Post × Determined (λ r s. outcome r (now (s .1 .0))) tuned.Post
+comb-filter-determined = (
+  by-definition,
+  by-definition,
+  by-definition,
+  as-follows (λ κs a r s p. ap (λ (t : Step (Comb LowPassGain SoftClip)). outcome (record { comb = record { cursor = record { position = t .next .position }; response = t .next .response; limit = t .next .limit }; sample = t .sample }) (t .next .ring)) p),
+)
 
-pub get-delayed-determined : (κs : Lfts 1) → Determined (get-delayed.Post κs) (λ r s. r)
-get-delayed-determined κs = by-definition _ (λ a r s p. p)
-
-pub get-delayed-fract-determined : (κs : Lfts 1) → Determined (get-delayed-fract.Post κs) (λ r s. r)
-get-delayed-fract-determined κs = by-definition _ (λ a r s p. p)
-
-pub mute-determined : (κs : Lfts 1) → Determined (mute.Post κs) (λ r s. outcome r (now (s .1 .0)))
-mute-determined κs = by-definition _ (λ a r s p. p)
-
-pub soft-clip-determined : (κs : Lfts 0) → Determined (soft-clip.Post κs) (λ r s. r)
-soft-clip-determined κs = by-definition _ (λ a r s p. ap (λ (t : Step SoftClip). record { clip = t .next; sample = t .sample }) p)
-
-pub soft-clip-delay-determined : (κs : Lfts 0) → Determined (soft-clip-delay.Post κs) (λ r s. r)
-soft-clip-delay-determined κs = by-definition _ (λ a r s p. p)
-
-pub soft-clip-mute-determined : (κs : Lfts 0) → Determined (soft-clip-mute.Post κs) (λ r s. r)
-soft-clip-mute-determined κs = by-definition _ (λ a r s p. p)
-
-pub damping-determined : (κs : Lfts 0) → Determined (damping.Post κs) (λ r s. r)
-damping-determined κs = by-definition _ (λ a r s p. p)
-
-pub low-pass-new-determined : (κs : Lfts 0) → Determined (low-pass-new.Post κs) (λ r s. r)
-low-pass-new-determined κs = by-definition _ (λ a r s p. p)
-
-pub low-pass-cutoff-determined : (κs : Lfts 0) → Determined (low-pass-cutoff.Post κs) (λ r s. r)
-low-pass-cutoff-determined κs = by-definition _ (λ a r s p. p)
-
-pub low-pass-determined : (κs : Lfts 0) → Determined (low-pass.Post κs) (λ r s. r)
-low-pass-determined κs = by-definition _ (λ a r s p. ap (λ (t : Step OnePoleLowPass). record { filter = t .next; sample = t .sample }) p)
-
-pub low-pass-delay-determined : (κs : Lfts 0) → Determined (low-pass-delay.Post κs) (λ r s. r)
-low-pass-delay-determined κs = by-definition _ (λ a r s p. p)
-
-pub low-pass-mute-determined : (κs : Lfts 0) → Determined (low-pass-mute.Post κs) (λ r s. r)
-low-pass-mute-determined κs = by-definition _ (λ a r s p. p)
-
-pub low-pass-gain-determined : (κs : Lfts 0) → Determined (low-pass-gain.Post κs) (λ r s. r)
-low-pass-gain-determined κs = by-definition _ (λ a r s p. ap (λ (t : Step LowPassGain). record { next = t .next; sample = t .sample }) p)
-
-pub low-pass-gain-delay-determined : (κs : Lfts 0) → Determined (low-pass-gain-delay.Post κs) (λ r s. r)
-low-pass-gain-delay-determined κs = by-definition _ (λ a r s p. p)
-
-pub low-pass-gain-mute-determined : (κs : Lfts 0) → Determined (low-pass-gain-mute.Post κs) (λ r s. r)
-low-pass-gain-mute-determined κs = by-definition _ (λ a r s p. p)
-
-pub response-determined : (κs : Lfts 0) → Determined (response.Post κs) (λ r s. r)
-response-determined κs = by-definition _ (λ a r s p. ap (λ (t : Step Response). record { response = t .next; sample = t .sample }) p)
-
-pub response-delay-determined : (κs : Lfts 0) → Determined (response-delay.Post κs) (λ r s. r)
-response-delay-determined κs = by-definition _ (λ a r s p. p)
-
-pub response-mute-determined : (κs : Lfts 0) → Determined (response-mute.Post κs) (λ r s. r)
-response-mute-determined κs = by-definition _ (λ a r s p. p)
-
-pub limit-determined : (κs : Lfts 0) → Determined (limit.Post κs) (λ r s. r)
-limit-determined κs = by-definition _ (λ a r s p. ap (λ (t : Step Limit). record { limit = t .next; sample = t .sample }) p)
-
-pub limit-delay-determined : (κs : Lfts 0) → Determined (limit-delay.Post κs) (λ r s. r)
-limit-delay-determined κs = by-definition _ (λ a r s p. p)
-
-pub limit-mute-determined : (κs : Lfts 0) → Determined (limit-mute.Post κs) (λ r s. r)
-limit-mute-determined κs = by-definition _ (λ a r s p. p)
-
-pub comb-determined : (κs : Lfts 1) → Determined (comb.Post κs) (λ r s. outcome r (now (s .1 .0)))
-comb-determined κs = by-definition _ (λ a r s p. p)
-
-pub comb-fract-determined : (κs : Lfts 1) → Determined (comb-fract.Post κs) (λ r s. outcome r (now (s .1 .0)))
-comb-fract-determined κs = by-definition _ (λ a r s p. p)
-
-pub comb-mute-determined : (κs : Lfts 1) → Determined (comb-mute.Post κs) (λ r s. outcome r (now (s .1 .0)))
-comb-mute-determined κs = by-definition _ (λ a r s p. p)
-
-pub tuned-determined : (κs : Lfts 1) → Determined (tuned.Post κs) (λ r s. outcome r (now (s .1 .0)))
-tuned-determined κs = by-definition _ (λ a r s p. ap (λ (t : Step (Comb LowPassGain SoftClip)). outcome (record { comb = record { cursor = record { position = t .next .position }; response = t .next .response; limit = t .next .limit }; sample = t .sample }) (t .next .ring)) p)
-
-pub all-pass-feedback-determined : (κs : Lfts 0) → Determined (all-pass-feedback.Post κs) (λ r s. r)
-all-pass-feedback-determined κs = by-definition _ (λ a r s p. p)
-
-pub all-pass-determined : (κs : Lfts 1) → Determined (all-pass.Post κs) (λ r s. outcome r (now (s .1 .0)))
-all-pass-determined κs = by-definition _ (λ a r s p. p)
-
-pub all-pass-fract-determined : (κs : Lfts 1) → Determined (all-pass-fract.Post κs) (λ r s. outcome r (now (s .1 .0)))
-all-pass-fract-determined κs = by-definition _ (λ a r s p. p)
-
-pub all-pass-mute-determined : (κs : Lfts 1) → Determined (all-pass-mute.Post κs) (λ r s. outcome r (now (s .1 .0)))
-all-pass-mute-determined κs = by-definition _ (λ a r s p. p)
+pub all-pass-determined : Answer all-pass-feedback.Post × Determined (λ r s. outcome r (now (s .1 .0))) all-pass.Post
+    × Determined (λ r s. outcome r (now (s .1 .0))) all-pass-fract.Post × Determined (λ r s. outcome r (now (s .1 .0))) all-pass-mute.Post
+all-pass-determined = (by-definition, by-definition, by-definition, by-definition)
 
 -- ---- proved by a walk, so that there is no `Reads`: `lent-is` says by `refl` that what is written here is its `ensures`
 abbrev Lent : RefT Cursor × ℕ → Verdict → RefT Cursor → Type 0
@@ -168,5 +125,5 @@ pub lent-is : {M : Type 1} (𝓤 : URA M) (H : Heap 𝓤) (A : Atoms 𝓤) (at-m
     → lent.ensures-1 𝓤 H κs A at-mem run c n (record { entry = c; exit = c′ }) (record { entry = n; exit = n }) r ≡ fact 𝓤 (Lent (c, n) r c′)
 lent-is 𝓤 H A at-mem run κs c c′ n r = refl
 
-pub lent-determined : Determined Lent (λ r s. outcome r (now s))
-lent-determined = by-definition _ (λ a r s p. both (p .0) (p .1))
+pub lent-determined : Determined (λ r s. outcome r (now s)) (λ (κs : Lfts 1). Lent)
+lent-determined = as-follows (λ κs a r s p. both (p .0) (p .1))

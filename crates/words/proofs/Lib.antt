@@ -6,3 +6,4 @@ pub mod Fill
 pub mod Put
 pub mod Pour
 pub mod Inverse
+pub mod Determined
