@@ -1,7 +1,8 @@
 -- `SafeOrders` is the order theorem, and says in words what it says; `CannotBeDropped` shows why its premise is there. `Commute` and `TwoOrders`
--- are its proof. `Listed` proves the table of listed cases.
+-- are its proof. `Refusals` says what a run answers and what a refused one leaves. `Listed` proves the table of listed cases.
 pub mod Commute
 pub mod TwoOrders
 pub mod SafeOrders
+pub mod Refusals
 pub mod Listed
 pub mod CannotBeDropped
