@@ -3,22 +3,21 @@
 --     zero-eq, zero-lt, zero-le    a finite float against zero: its sign tells, and whether it has digits
 --     whole-lt, whole-le           m * 2 ^ e against a float whose value is the whole number n
 -- Assumes nothing.
-use mathlib.Core.Path.{_≡_, refl, sym, _∙_, ap, subst}
-use mathlib.Core.Bool.{Bool, true, false, _&&_, _||_, not, Bool·beq, not-or-self}
+use mathlib.Core.Path.{_≡_, refl, sym, _∙_, ap}
+use mathlib.Core.Bool.{Bool, true, false, false≢true, _&&_, _||_, not, Bool·beq, not-or-self}
 use Prim.Native.Nat.{ℕ, zero, suc, _+_, _*_, _≤_, _<_}
 use native.Mathlib.Nat.{zero-mul, mul-one, mul-pos, mul-right-comm, mul-lt-mul-of-pos-right, mul-le-mul-right, le-of-lt, le-of-eq, zero-lt-suc}
 use native.Mathlib.Omega.{arith}
-use borrow.Author.Tests.{eqb-true, eqb-false, ltb-true, ltb-false, leb-true, leb-false, lt-ltb, le-ltb, le-leb, lt-leb, ne-eqb}
-use lib.Dec.{T, eqb, ltb, leb, eqb-refl, eqb·suc-zero}
+use borrow.Author.Tests.{eqb-true, eqb-false, ltb-true, ltb-false, leb-true, leb-false, lt-ltb, le-ltb, le-leb, lt-leb, eq-eqb, ne-eqb}
+use lib.Dec.{eqb, ltb, leb, eqb·suc-zero}
 use lib.IntN.{ℤ}
 use lib.Ieee.{Float, nan, inf, fin, ofBits, eq, ne, lt, le, isNan, up, down}
-use lib.Ieee.Bits.{is-true}
 use lib.Ieee.Exact.{HasValue}
 use lib.Ieee.Fits.{up-pos, down-pos}
 use Rattle.numbers.specs.Constants.{zero64}
 
 pub falsehood : {A : Type 0} → false ≡ true → A
-falsehood h = absurd (subst T (sym h) tt)
+falsehood h = absurd (false≢true h)
 
 -- ---- with itself
 beq-self : (s : Bool) → Bool·beq s s ≡ true
@@ -29,7 +28,7 @@ pub ne-self : (x : Float) → ne x x ≡ isNan x
 unfolding ne eq isNan
 ne-self nan = refl
 ne-self (inf s) = simp beq-self
-ne-self (fin s m e) = simp (is-true (eqb (m * up e * down e) (m * up e * down e)) (eqb-refl (m * up e * down e)), beq-self)
+ne-self (fin s m e) = simp (eq-eqb (m * up e * down e) (m * up e * down e) refl, beq-self)
 
 -- ---- with zero
 pub size-pos : (m : ℕ) (e : ℤ) → 0 < suc m * up e

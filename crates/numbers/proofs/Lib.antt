@@ -10,5 +10,4 @@ pub mod WholePart
 pub mod RoundUp
 pub mod Offset
 pub mod Horner
-pub mod Coefficients
 pub mod Determined

@@ -3,7 +3,7 @@
 --     zeros-are       a list that passes the test is +0.0 throughout, and so is a part of it
 -- Assumes nothing.
 use mathlib.Core.Path.{_≡_, refl}
-use mathlib.Core.Bool.{Bool, true, false, _&&_}
+use mathlib.Core.Bool.{true, false, and-eq-true-iff}
 use mathlib.Core.List.{List, [], _∷_}
 use Prim.Native.Nat.{ℕ, zero, suc, _≤_}
 use native.Mathlib.Omega.{arith}
@@ -24,18 +24,10 @@ is-zero (fin false zero (negsuc k)) e = falsehood e
 is-zero (fin false zero (pos (suc k))) e = falsehood e
 is-zero (fin false zero (pos zero)) e = refl
 
-and-left : (a b : Bool) → (a && b) ≡ true → a ≡ true
-and-left true b e = refl
-and-left false b e = e
-
-and-right : (a b : Bool) → (a && b) ≡ true → b ≡ true
-and-right true b e = e
-and-right false b e = falsehood e
-
 pub zeros-are : (l : List Float) (n : ℕ) → allPlusZero l ≡ true → n ≤ length l → take n l ≡ replicate n zero64
 unfolding allPlusZero
 zeros-are l zero e h = refl
 zeros-are [] (suc n) e h = absurd (omega arith)
 zeros-are (x ∷ l) (suc n) e h =
-    let here : x ≡ zero64 = is-zero x (and-left (isPlusZero x) (allPlusZero l) e) in
-    rw (here, zeros-are l n (and-right (isPlusZero x) (allPlusZero l) e) (omega arith))
+    let each = and-eq-true-iff (isPlusZero x) (allPlusZero l) .0 e in
+    rw (is-zero x (each .0), zeros-are l n (each .1) (omega arith))

@@ -1,6 +1,6 @@
 -- What one rounding does: its sign is the one it is handed, a value that f64 holds stays, and of a whole number of f64's smallest values only 0 gives a zero.
 --     round-signed               a rounded number, given a sign, is the number rounded with that sign
---     held, round-own            what f64 holds, and that it rounds to itself
+--     fitted, round-own          what f64 holds: how many digits, how deep and how large; and that it rounds to itself
 --     unit-grid                  what f64 holds is a whole number of its smallest values, 2 ^ -1074
 --     round-zero, zero-rounds    of such numbers, 0 alone rounds to a zero
 -- Assumes nothing.
@@ -64,19 +64,19 @@ parts true true false d t = absurd t
 parts true false c d t = absurd t
 parts false b c d t = absurd t
 
-pub record Held (m : ℕ) (e : ℤ) : Type 0 where
+pub record Fitted (m : ℕ) (e : ℤ) : Type 0 where
   pub digits : m < 2 ^ 53
   pub depth : down e ≤ 2 ^ 1074
   pub below : m * up e < 2 ^ 1024 * down e
 
-pub held : (s : Bool) (m : ℕ) (e : ℤ) → T (fits binary64 (fin s m e)) → Held m e
+pub fitted : (s : Bool) (m : ℕ) (e : ℤ) → T (fits binary64 (fin s m e)) → Fitted m e
 unfolding fits
-held s zero e t = record {
+fitted s zero e t = record {
   digits = pow-pos 53;
   depth = le-trans (rw one-mul at (mul-le-mul-right (down e) (up-pos e))) (le-trans (le-of-eq (eqb→eq (up e * down e) 1 t)) (pow-pos 1074));
   below = rw zero-mul (mul-pos (pow-pos 1024) (down-pos e));
 }
-held s (suc m) e t =
+fitted s (suc m) e t =
     let p = parts (eqb (suc m % 2) 1) (ltb (suc m) (2 ^ 53)) (leb (down e) (2 ^ 1074)) (ltb (suc m * up e) (2 ^ 1024 * down e)) t in
     record { digits = ltb→lt (suc m) (2 ^ 53) (p .0); depth = leb→le (down e) (2 ^ 1074) (p .1); below = ltb→lt (suc m * up e) (2 ^ 1024 * down e) (p .2) }
 
@@ -96,7 +96,7 @@ steps (negsuc k) h =
 -- m * 2 ^ e is m * 2 ^ j of them
 in-units : (s : Bool) (m : ℕ) (e : ℤ) → T (fits binary64 (fin s m e)) → (j : ℕ) × (m * up e * 2 ^ 1074 ≡ m * 2 ^ j * down e)
 in-units s m e t =
-    let j = steps e (held s m e t .depth) in
+    let j = steps e (fitted s m e t .depth) in
     (j .0, mul-assoc m (up e) (2 ^ 1074) ∙ ap (λ (n : ℕ). m * n) (j .1) ∙ sym (mul-assoc m (2 ^ j .0) (down e)))
 
 pub unit-grid : (s : Bool) (m : ℕ) (e : ℤ) → T (fits binary64 (fin s m e)) → down e ∣ m * up e * 2 ^ 1074
@@ -123,7 +123,7 @@ same-bits (fin t n d) s m e p q v =
     bits : toBits binary64 (fin t n d) ≡ toBits binary64 (fin s m e)
     bits = ap (λ (b : Bool). pattern b (n * up d * 2 ^ 1074 / down d)) (v .0) ∙ ap (pattern s) units-same
 
-units-small : (m : ℕ) (e : ℤ) (j : ℕ) → Held m e → m * up e * 2 ^ 1074 ≡ m * 2 ^ j * down e → m * 2 ^ j < 2 ^ 2098
+units-small : (m : ℕ) (e : ℤ) (j : ℕ) → Fitted m e → m * up e * 2 ^ 1074 ≡ m * 2 ^ j * down e → m * 2 ^ j < 2 ^ 2098
 units-small m e j t h =
     lt-of-mul-lt-mul-right (down e)
     (subst (λ (n : ℕ). n < 2 ^ 2098 * down e) h
@@ -133,7 +133,7 @@ pub round-own : (s : Bool) (m : ℕ) (e : ℤ) → T (fits binary64 (fin s m e))
 round-own s m e t =
     let j = in-units s m e t in
     same-bits (round binary64 s (m * up e) (down e)) s m e (round-fits binary64 s (m * up e) (down e)) t
-    (round-exact binary64 s (m * up e) (down e) m (j .0) (down-pos e) (held s m e t .digits) (units-small m e (j .0) (held s m e t) (j .1)) (j .1))
+    (round-exact binary64 s (m * up e) (down e) m (j .0) (down-pos e) (fitted s m e t .digits) (units-small m e (j .0) (fitted s m e t) (j .1)) (j .1))
 
 -- ---- a zero
 above-smallest : (n d : ℕ) → 0 < d → d ∣ suc n * 2 ^ 1074 → round binary64 false (suc n) d ≡ zero64 → ⊥

@@ -12,7 +12,7 @@ use lib.Ieee.{Float, nan, inf, fin, binary64, ofBits, ofInt, toUnsigned, fits, l
 use Rattle.numbers.specs.Constants.{limit64}
 use Rattle.numbers.specs.Small.{negative, absOf, copysignOf, wholeOf}
 use Rattle.numbers.proofs.Compare.{falsehood, whole-le}
-use Rattle.numbers.proofs.Rounding.{round-signed, round-own, held}
+use Rattle.numbers.proofs.Rounding.{round-signed, round-own, fitted}
 use Rattle.numbers.proofs.Range.{Within, plus, limit-value, cast-is}
 
 limit-le : (m : ℕ) (e : ℤ) → le (fin false m e) limit64 ≡ leb (m * up e) (2 ^ 53 * down e)
@@ -41,4 +41,4 @@ unfolding absOf wholeOf
 large-whole nan t h = refl
 large-whole (inf s) t h = refl
 large-whole (fin s m (pos k)) t h = sym (rw div-one (round-own s m (pos k) t))
-large-whole (fin s m (negsuc k)) t h = falsehood (sym h ∙ below-limit m k (held s m (negsuc k) t .digits))
+large-whole (fin s m (negsuc k)) t h = falsehood (sym h ∙ below-limit m k (fitted s m (negsuc k) t .digits))

@@ -1,5 +1,4 @@
--- "Small functions of f64" of the requirements, each sentence as a function; and abs, copysign and the whole part, which the sentences rest on.
--- Assumes nothing.
+-- "Small functions of f64" of document 01, each sentence as a function; then the sign, abs and copysign, which 01 has worked out here. Assumes nothing.
 use Prim.Native.Nat.{_*_, _/_}
 use mathlib.Core.Bool.{Bool, false, cond}
 use lib.Ieee.{Float, nan, inf, fin, binary64, add, sub, neg, div, rem, lt, isNan, round, up, down}
@@ -15,22 +14,6 @@ minOf x y = cond (isNan x) y (cond (lt y x) y x)
 -- "Held to a..b means the maximum with a, then the minimum with b."
 abbrev pub heldOf : Float → Float → Float → Float
 heldOf x a b = minOf (maxOf x a) b
-
--- whether the sign is minus, of a zero too; a NaN has none
-unfoldable pub negative : Float → Bool
-negative nan = false
-negative (inf s) = s
-negative (fin s m e) = s
-
--- |x|
-unfoldable pub absOf : Float → Float
-absOf nan = nan
-absOf (inf s) = inf false
-absOf (fin s m e) = fin false m e
-
--- the magnitude of x with the sign of y
-unfoldable pub copysignOf : Float → Float → Float
-copysignOf x y = cond (negative y) (neg (absOf x)) (absOf x)
 
 -- "recip is 1/x."
 abbrev pub recipOf : Float → Float
@@ -51,3 +34,21 @@ unfoldable pub remEuclidOf : Float → Float
 remEuclidOf x =
     let r = rem binary64 x one64 in
     cond (lt r zero64) (add binary64 r one64) r
+
+-- ---- signs and magnitudes, which Clip and SoftClip ask for
+
+-- whether the sign is minus, of a zero too; a NaN has none
+unfoldable pub negative : Float → Bool
+negative nan = false
+negative (inf s) = s
+negative (fin s m e) = s
+
+-- |x|
+unfoldable pub absOf : Float → Float
+absOf nan = nan
+absOf (inf s) = inf false
+absOf (fin s m e) = fin false m e
+
+-- the magnitude of x with the sign of y
+unfoldable pub copysignOf : Float → Float → Float
+copysignOf x y = cond (negative y) (neg (absOf x)) (absOf x)

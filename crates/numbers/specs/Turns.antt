@@ -1,4 +1,4 @@
--- The sine and the cosine of x turns, as the requirements work them out: each operation is rounded once, and its order is fixed. Assumes nothing.
+-- The sine and the cosine of x turns, as document 01 works them out: each operation is rounded once, and their order is fixed. Assumes nothing.
 use Prim.Native.Nat.{ℕ, zero, suc, _*_}
 use mathlib.Core.Bool.{Bool, false, not, cond}
 use mathlib.Core.List.{List, [], _∷_}

@@ -1,8 +1,8 @@
 -- +0.0 and nothing else: what each of the lent zeros must be. Assumes nothing.
-use Prim.Native.Nat.{ℕ, zero, suc}
+use Prim.Native.Nat.{zero, suc}
 use mathlib.Core.Bool.{Bool, true, false, _&&_}
 use mathlib.Core.List.{List, [], _∷_}
-use lib.IntN.{ℤ, pos, negsuc}
+use lib.IntN.{pos, negsuc}
 use lib.Ieee.{Float, nan, inf, fin}
 
 -- whether a float is +0.0 as data: no sign, no digit, no exponent
