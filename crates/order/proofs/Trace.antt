@@ -6,7 +6,7 @@
 -- independent of x; x is pulled to the front over it (`pull`), and both orders go on without x (`without`).
 -- Assumes nothing.
 use mathlib.Core.Path.{_≡_, refl, sym, ap, _∙_, subst}
-use mathlib.Core.Logic.{_⊎_, inl, inr, _↔_, _≢_}
+use mathlib.Core.Logic.{inl, inr, _≢_}
 use mathlib.Core.Bool.{Bool, true, false}
 use mathlib.Core.List.{List, [], _∷_}
 use Rattle.order.specs.Order.{Among, Once, Before, SameOrder, runs}
@@ -15,9 +15,7 @@ module _ {A : Type 0} where
   -- ---- members and places
 
   pub among-cast : {a b : A} (l : List A) → a ≡ b → Among b l → Among a l
-  among-cast [] e h = h
-  among-cast (x ∷ xs) e (inl h) = inl (e ∙ h)
-  among-cast (x ∷ xs) e (inr h) = inr (among-cast xs e h)
+  among-cast l e h = subst (λ (x : A). Among x l) (sym e) h
 
   pub before-first : (a b : A) (l : List A) → Before a b l → Among a l
   before-first a b [] h = h
@@ -38,9 +36,9 @@ module _ {A : Type 0} where
   before-asym a b (x ∷ xs) o (inr h) (inr k) = before-asym a b xs (o .1) h k
 
   pub before-differ : (a b : A) (l : List A) → Once l → Before a b l → a ≢ b
-  before-differ a b [] o h e = h
-  before-differ a b (x ∷ xs) o (inl h) e = o .0 (among-cast xs (sym (h .0) ∙ e) (h .1))
-  before-differ a b (x ∷ xs) o (inr h) e = before-differ a b xs (o .1) h e
+  before-differ a b l o h e =
+      let twice : Before b b l = subst (λ (x : A). Before x b l) e h in
+      before-asym b b l o twice twice
 
   -- ---- the list without a member, whose place is given
 

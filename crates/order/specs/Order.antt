@@ -1,5 +1,5 @@
 -- Orders: lists in which each member stands once. Over any alphabet A: stage numbers, or pairs of a stage and a sample's index.
--- What a reader must believe of "the same members", "each once" and "in the same sequence" is here, and nothing else.
+-- What a reader must believe of "the same members", "each once", "in the same sequence" and a run along an order is here, and nothing else.
 -- Assumes nothing.
 use mathlib.Core.Path.{_≡_}
 use mathlib.Core.Logic.{_⊎_, _↔_}
