@@ -2,7 +2,6 @@
 --     read-apart, store-apart   a store is not seen in the other part, and two stores change places; nothing is asked of the list's
 --                               length, since a store past the end does nothing
 --     product-le, within        a product of bounded factors; n samples of buffer i lie in a pool of count buffers
---     below-or-not              which of two numbers is less
 --     apart-or-empty, buffers-apart   two buffers of one pool, or one with itself where the window is empty
 -- Assumes nothing.
 use mathlib.Core.Path.{_≡_, refl, sym, ap, _∙_}
@@ -64,7 +63,7 @@ product-le {a} {b} {c} {d} h k = le-trans (mul-le-mul-right c h) (mul-le-mul-lef
 pub within : (i count n capacity : ℕ) → i < count → n ≤ capacity → i * capacity + n ≤ count * capacity
 within i count n capacity h k = omega (arith, suc-mul i capacity, mul-le-mul-right capacity h)
 
-pub below-or-not : (i j : ℕ) → (i < j) ⊎ (j ≤ i)
+below-or-not : (i j : ℕ) → (i < j) ⊎ (j ≤ i)
 below-or-not i j = go (ltb i j) refl
   where
     go : (v : Bool) → ltb i j ≡ v → (i < j) ⊎ (j ≤ i)

@@ -11,9 +11,9 @@ use Rattle.magnetron.specs.Buffers.{indexOf, pick, staleAt, heard}
 use Rattle.magnetron.specs.Pools.{marksIn, poolAt, baseOf}
 use Rattle.magnetron.specs.Checks.{hasBuffer}
 use Rattle.magnetron.specs.Single.{Lent, readFault, readOf}
-use Rattle.magnetron.specs.Room.{Held, Room}
+use Rattle.magnetron.specs.Room.{Held}
 use Rattle.magnetron.specs.declared.buffer.BufferIndex.{BufferIndex}
-use Rattle.magnetron.proofs.Told.{held, zeros-lent, room, pick-length, line-is}
+use Rattle.magnetron.proofs.Told.{Room, held, zeros-lent, room, pick-length, line-is}
 use Rattle.magnetron.proofs.Faults.{prepare-told, read-told}
 
 module _ (l : Lent) (b : BufferIndex) (ok : passed (readFault l b) ≡ true) where

@@ -6,14 +6,14 @@ use mathlib.Core.Logic.{_≢_, inl, inr}
 use mathlib.Core.Bool.{Bool, true, false, true≢false}
 use mathlib.Core.List.{List, [], _∷_}
 use Prim.Native.Nat.{ℕ, _≤_}
-use lib.Dec.{eqb, eqb-refl}
 use lib.Seq.{getD-set-other, set-comm}
+use borrow.Author.Tests.{eq-eqb}
 use Rattle.order.specs.Order.{Among}
 use Rattle.magnetron.specs.Buffers.{sameBuffer, hits, meets, Shape, Bank, Banks, Line, capacityAt, lineOf, withLine, lineAt, withLineAt, staleAt, cleared}
 use Rattle.magnetron.specs.declared.buffer.Marks.{Marks}
 use Rattle.magnetron.specs.declared.buffer.BufferIndex.{BufferIndex}
 use Rattle.magnetron.specs.declared.buffer.BufferIndex.the-variants.{Internal, External}
-use Rattle.magnetron.proofs.Tests.{T-true, or-false-left, or-false-right}
+use Rattle.magnetron.proofs.Tests.{or-false-left, or-false-right}
 use Rattle.magnetron.proofs.Parts.{read-apart, store-apart, buffers-apart}
 
 -- ---- one pool
@@ -71,8 +71,8 @@ mark-swap (External i) (External j) m d = ap (λ (l : List Bool). record { inter
 -- ---- the tests: what `meets` denies
 
 pub same-buffer-refl : (b : BufferIndex) → sameBuffer b b ≡ true
-same-buffer-refl (Internal k) = T-true (eqb k k) (eqb-refl k)
-same-buffer-refl (External k) = T-true (eqb k k) (eqb-refl k)
+same-buffer-refl (Internal k) = eq-eqb k k refl
+same-buffer-refl (External k) = eq-eqb k k refl
 
 pub differ : (b c : BufferIndex) → sameBuffer b c ≡ false → b ≢ c
 differ b c h e = true≢false (sym (same-buffer-refl b) ∙ ap (sameBuffer b) e ∙ h)

@@ -1,12 +1,13 @@
 -- Tests as facts.
---     holds, fails           what `if !f(..) { return .. }` tells of what f ensures, on the way past it and on the way out
---     and-left, and-right    what both of two tests tell, and-both makes them one
---     or-cases, or-other, or-false-left, or-false-right
+--     holds, fails                      what `if !f(..) { return .. }` tells of what f ensures, on the way past it and on the way out
+--     and-left, and-right               what it tells that two tests passed
+--     or-cases, or-other                what it tells that one of two passed
+--     or-false-left, or-false-right     what it tells that neither did
+--     not-not-or                        check 7's test, at an output that is an input
 -- Assumes nothing.
 use mathlib.Core.Path.{_≡_, refl, sym, _∙_}
 use mathlib.Core.Logic.{_⊎_, inl, inr}
-use mathlib.Core.Bool.{Bool, true, false, false≢true, true≢false, not, _&&_, _||_}
-use lib.Dec.{T}
+use mathlib.Core.Bool.{Bool, true, false, true≢false, not, _&&_, _||_, and-eq-true-iff}
 use borrow.Author.Tests.{not-true, not-false}
 
 pub holds : {r s : Bool} → r ≡ s → not r ≡ false → s ≡ true
@@ -15,21 +16,11 @@ holds e h = sym e ∙ not-false _ h
 pub fails : {r s : Bool} → r ≡ s → not r ≡ true → s ≡ false
 fails e h = sym e ∙ not-true _ h
 
-pub T-of : (b : Bool) → b ≡ true → T b
-T-of true e = tt
-T-of false e = absurd (false≢true e)
-
-pub T-true : (b : Bool) → T b → b ≡ true
-T-true true t = refl
-T-true false t = absurd t
-
 pub and-left : (a b : Bool) → (a && b) ≡ true → a ≡ true
-and-left true b h = refl
-and-left false b h = h
+and-left a b h = and-eq-true-iff a b .0 h .0
 
 pub and-right : (a b : Bool) → (a && b) ≡ true → b ≡ true
-and-right true b h = h
-and-right false b h = absurd (false≢true h)
+and-right a b h = and-eq-true-iff a b .0 h .1
 
 pub or-cases : (a b : Bool) → (a || b) ≡ true → (a ≡ true) ⊎ (b ≡ true)
 or-cases true b h = inl refl
@@ -48,7 +39,6 @@ pub or-false-right : (a b : Bool) → (a || b) ≡ false → b ≡ false
 or-false-right true b h = absurd (true≢false h)
 or-false-right false b h = h
 
--- the test of check 7 at an output that is an input
 pub not-not-or : (b : Bool) → not (not b || false) ≡ b
 not-not-or true = refl
 not-not-or false = refl

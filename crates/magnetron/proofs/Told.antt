@@ -1,7 +1,7 @@
 -- What the checks tell that passed, of buffers: where they lie, that inputs are clear of the output, and what the loops' forms are in the definition's.
 -- The output is `o`; its pool has the samples `own`, and the other pool `other`.
 --     held, zeros-lent        checks 1 and 2, as facts
---     all-there, room, base-small     check 5: a buffer has a mark, n of its samples lie in its pool, and its place is a small number
+--     all-there, Room, room, base-small     check 5: a buffer has a mark, n of its samples lie in its pool, and its place is a small number
 --     capacity-at, fits, line-is      the capacities of the shape, and what a buffer holds
 --     apart-from              check 7 of one input
 --     place-own, clear-source     the output lies in its pool, and an input clear of it
@@ -28,7 +28,7 @@ use Rattle.magnetron.specs.Inputs.{signalOf, sourceOf, Apart, Clear}
 use Rattle.magnetron.specs.Window.{tab, window}
 use Rattle.magnetron.specs.Mix.{mixed, from}
 use Rattle.magnetron.specs.Single.{levelled}
-use Rattle.magnetron.specs.Room.{Bounds, Held, Room, RoomOf}
+use Rattle.magnetron.specs.Room.{Bounds, Held}
 use Rattle.magnetron.specs.declared.buffer.Marks.{Marks}
 use Rattle.magnetron.specs.declared.buffer.BufferIndex.{BufferIndex}
 use Rattle.magnetron.specs.declared.buffer.BufferIndex.the-variants.{External, Internal}
@@ -70,6 +70,16 @@ zeros-lent p internal external n zeros s w =
     (omega arith, and-right (eqb (length zeros) (p .internal .capacity)) _ r)
 
 -- ---- check 5
+
+-- buffer i of a pool has a mark, and n samples of it lie in the slice
+pub record Room (i capacity len n : ℕ) : Type 0 where
+  pub mark : i < 16
+  pub place : i * capacity + n ≤ len
+  pub short : n ≤ capacity
+  pub small : len ≤ 65536
+
+abbrev pub RoomOf : Pools → ℕ → ℕ → ℕ → BufferIndex → Type 0
+RoomOf p internal external n b = Room (indexOf b) (poolAt b p .capacity) (pick b internal external) n
 
 room-by : (i count capacity len n : ℕ) → Bounds count capacity len → i < count → n ≤ capacity → Room i capacity len n
 room-by i count capacity len n b h k =

@@ -2,12 +2,12 @@
 use mathlib.Core.Path.{_≡_}
 use mathlib.Core.Bool.{true, _||_}
 use mathlib.Core.List.{List, [], _∷_, _++_}
-use Prim.Native.Nat.{ℕ, _+_, _*_, _<_, _≤_}
+use Prim.Native.Nat.{ℕ, _*_, _≤_}
 use lib.Dec.{leb, eqb}
 use lib.ListN.{length}
 use lib.Ieee.{Float}
-use Rattle.magnetron.specs.Buffers.{indexOf, pick}
-use Rattle.magnetron.specs.Pools.{marksIn, poolAt}
+use Rattle.magnetron.specs.Buffers.{pick}
+use Rattle.magnetron.specs.Pools.{marksIn}
 use Rattle.magnetron.specs.Checks.{allThere, noClash}
 use Rattle.magnetron.specs.Inputs.{listOf}
 use Rattle.magnetron.specs.Single.{lengthOk}
@@ -27,16 +27,6 @@ pub record Held (p : Pools) (internal external n : ℕ) : Type 0 where
   pub external-bounds : Bounds (p .external .count) (p .external .capacity) external
   pub internal-window : n ≤ p .internal .capacity
   pub external-window : (eqb (p .external .count) 0 || leb n (p .external .capacity)) ≡ true
-
--- check 5 of buffer i of a pool: it has a mark, and n samples lie in the slice
-pub record Room (i capacity len n : ℕ) : Type 0 where
-  pub mark : i < 16
-  pub place : i * capacity + n ≤ len
-  pub short : n ≤ capacity
-  pub small : len ≤ 65536
-
-abbrev pub RoomOf : Pools → ℕ → ℕ → ℕ → BufferIndex → Type 0
-RoomOf p internal external n b = Room (indexOf b) (poolAt b p .capacity) (pick b internal external) n
 
 -- checks 1, 2, 5 and 7 of a single write; the output's pool has the samples `own`, and the other pool `other`
 pub record Writable (p : Pools) (inputs : Inputs) (own other values : List Float) (output : BufferIndex) (n : ℕ) : Type 0 where

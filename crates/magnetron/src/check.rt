@@ -7,6 +7,7 @@ use crate::pool::Pools;
 ghost use mathlib.Core.Path.{_≡_};
 ghost use mathlib.Core.List.{_∷_, [], _++_};
 ghost use mathlib.Core.Option.{none, some};
+ghost use Rattle.order.specs.Checks.{unless};
 ghost use Rattle.magnetron.specs.Buffers.{hits};
 ghost use Rattle.magnetron.specs.Checks.{poolOk, shapeOk, windowOk, hasBuffer, allThere, noClash, verdictOf};
 ghost use Rattle.magnetron.specs.Inputs.{listOf};
@@ -33,6 +34,16 @@ pub fn refusal(number: usize) -> Verdict
     ensures { λ r. ⌜ r ≡ verdictOf (some number) ⌝ }
 {
     Verdict { number, stage: 32 }
+}
+
+// A refusal with the number where the test fails.
+pub(crate) fn refusal_unless(passed: bool, number: usize) -> Verdict
+    ensures { λ r. ⌜ r ≡ verdictOf (unless passed number) ⌝ }
+{
+    if passed {
+        return done();
+    }
+    refusal(number)
 }
 
 // Whether one pool keeps its bounds: at most 16 buffers of at most 4,096 samples, in a slice of that length.
@@ -159,8 +170,5 @@ pub fn check_prepare(
     if !shape_ok(pools, internal.len(), external.len(), zeros) {
         return refusal(1);
     }
-    if !window_ok(pools, n) {
-        return refusal(2);
-    }
-    done()
+    refusal_unless(window_ok(pools, n), 2)
 }

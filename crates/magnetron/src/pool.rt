@@ -81,6 +81,7 @@ pub fn new_pool(count: usize, capacity: usize, samples: &mut [f64]) -> Made
 }
 
 impl Pool {
+    // The same pool with other marks.
     fn with_stale(self, stale: [bool; 16]) -> Pool
         ensures { λ r. ⌜ r ≡ marked self stale ⌝ }
     {
@@ -131,6 +132,7 @@ impl Pools {
         }
     }
 
+    // Prepare clears the flag; this sets it afterwards.
     pub fn set_reset(mut self) -> Pools
         ensures { λ r. ⌜ r ≡ resetSet self ⌝ }
     {

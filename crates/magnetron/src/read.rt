@@ -2,9 +2,8 @@
 use crate::buffer::BufferIndex;
 use crate::check::Verdict;
 use crate::check::check_prepare;
-use crate::check::done;
 use crate::check::has;
-use crate::check::refusal;
+use crate::check::refusal_unless;
 use crate::pool::Pools;
 ghost use mathlib.Core.Path.{_≡_};
 ghost use Rattle.magnetron.specs.Buffers.{pick};
@@ -26,10 +25,7 @@ pub fn check_read(
     if first.number != 0 {
         return first;
     }
-    if !has(pools, buffer) {
-        return refusal(5);
-    }
-    done()
+    refusal_unless(has(pools, buffer), 5)
 }
 
 // The pool that a buffer is in.

@@ -3,9 +3,9 @@ use crate::buffer::BufferIndex;
 use crate::check::Verdict;
 use crate::check::all_there;
 use crate::check::check_prepare;
-use crate::check::done;
 use crate::check::no_clash;
 use crate::check::refusal;
+use crate::check::refusal_unless;
 use crate::input::Input;
 use crate::input::Inputs;
 use crate::input::fetch;
@@ -186,12 +186,10 @@ fn check_write(
     if !all_there(pools, inputs, output) {
         return refusal(5);
     }
-    if !no_clash(n, inputs, output, pools.marks()) {
-        return refusal(7);
-    }
-    done()
+    refusal_unless(no_clash(n, inputs, output, pools.marks()), 7)
 }
 
+// A refusal: its number and stage, Exhausted, and the pools as they came.
 fn refused(verdict: Verdict, pools: Pools) -> Wrote
     ensures { λ r. ⌜ r ≡ refusedBy verdict pools ⌝ }
 {
@@ -203,6 +201,7 @@ fn refused(verdict: Verdict, pools: Pools) -> Wrote
     Wrote { answer, pools }
 }
 
+// Done: the output's activity, and the pools with its mark cleared.
 fn written(output: BufferIndex, pools: Pools) -> Wrote
     ensures { λ r. ⌜ r ≡ writtenTo output pools (cleared output (marksIn pools)) ⌝ }
 {

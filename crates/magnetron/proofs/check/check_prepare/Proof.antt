@@ -19,27 +19,15 @@ returns c = simp (fails (c .before .before .shape-ok .ensures) (c .before .if1 .
 window-ok-requires : tie.Need-window-ok-requires
 window-ok-requires c κs = search needs
 
-refusal-requires-2 : tie.Need-refusal-requires-2
-refusal-requires-2 c κs = search needs
+refusal-unless-requires : tie.Need-refusal-unless-requires
+refusal-unless-requires c κs = search needs
 
 returns-2 : tie.Need-returns-2
 unfolding prepareFault
 returns-2 c =
-    let shape-ok = c .before .before .before .before .shape-ok in
-    let if1 = c .before .before .before .if1 in
-    let window-ok = c .before .before .window-ok in
-    simp (holds (shape-ok .ensures) (if1 .left), fails (window-ok .ensures) (c .before .if2 .taken)) (c .refusal2 .ensures)
-
-done-requires : tie.Need-done-requires
-done-requires c κs = search needs
-
-returns-3 : tie.Need-returns-3
-unfolding prepareFault
-returns-3 c =
-    let shape-ok = c .before .before .before .before .shape-ok in
-    let if1 = c .before .before .before .if1 in
-    let window-ok = c .before .before .window-ok in
-    simp (holds (shape-ok .ensures) (if1 .left), holds (window-ok .ensures) (c .before .if2 .left)) (c .done .ensures)
+    let shape-ok = c .before .before .before .shape-ok in
+    let if1 = c .before .before .if1 in
+    rw (holds (shape-ok .ensures) (if1 .left)) (rw (c .before .window-ok .ensures) at (c .refusal-unless .ensures))
 
 pub check-prepare-spec : {M : Type 1} → statement M
 check-prepare-spec =
@@ -49,7 +37,5 @@ check-prepare-spec =
     refusal-requires
     returns
     window-ok-requires
-    refusal-requires-2
-    returns-2
-    done-requires
-    returns-3)
+    refusal-unless-requires
+    returns-2)

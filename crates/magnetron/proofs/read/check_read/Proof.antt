@@ -2,7 +2,6 @@
 -- Assumes nothing.
 use borrow.Author.Needs.{needs}
 use Rattle.magnetron.specs.Single.{readFault}
-use Rattle.magnetron.proofs.Tests.{holds, fails}
 use Rattle.magnetron.proofs.Verdicts.{stopped, went-on}
 use Rattle.magnetron.proofs.Faults.{prepare-numbered}
 use Rattle.magnetron.proofs.read.check_read.Statement.{statement}
@@ -18,36 +17,17 @@ returns c = stopped _ _ (c .before .before .check-prepare .ensures) _ (c .if1 .t
 has-requires : tie.Need-has-requires
 has-requires c κs = search needs
 
-refusal-requires : tie.Need-refusal-requires
-refusal-requires c κs = search needs
+refusal-unless-requires : tie.Need-refusal-unless-requires
+refusal-unless-requires c κs = search needs
 
 returns-2 : tie.Need-returns-2
 unfolding readFault
 returns-2 c =
-    let prepared = c .before .before .before .before .before .check-prepare in
-    let if1 = c .before .before .before .if1 in
-    let has = c .before .before .has in
-    went-on _ _ (prepared .ensures) _ _ (prepare-numbered _) (if1 .left) (rw (fails (has .ensures) (c .before .if2 .taken)) (c .refusal .ensures))
-
-done-requires : tie.Need-done-requires
-done-requires c κs = search needs
-
-returns-3 : tie.Need-returns-3
-unfolding readFault
-returns-3 c =
-    let prepared = c .before .before .before .before .before .check-prepare in
-    let if1 = c .before .before .before .if1 in
-    let has = c .before .before .has in
-    went-on _ _ (prepared .ensures) _ _ (prepare-numbered _) (if1 .left) (rw (holds (has .ensures) (c .before .if2 .left)) (c .done .ensures))
+    let prepared = c .before .before .before .before .check-prepare in
+    let if1 = c .before .before .if1 in
+    went-on _ _ (prepared .ensures) _ _ (prepare-numbered _) (if1 .left) (rw (c .before .has .ensures) at (c .refusal-unless .ensures))
 
 pub check-read-spec : {M : Type 1} → statement M
 check-read-spec =
     tie.close
-    (tie.spec
-    check-prepare-requires
-    returns
-    has-requires
-    refusal-requires
-    returns-2
-    done-requires
-    returns-3)
+    (tie.spec check-prepare-requires returns has-requires refusal-unless-requires returns-2)

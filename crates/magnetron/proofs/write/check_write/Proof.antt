@@ -51,37 +51,21 @@ marks-requires c κs = search needs
 no-clash-requires : tie.Need-no-clash-requires
 no-clash-requires c κs = search needs
 
-refusal-requires-3 : tie.Need-refusal-requires-3
-refusal-requires-3 c κs = search needs
+refusal-unless-requires : tie.Need-refusal-unless-requires
+refusal-unless-requires c κs = search needs
 
 returns-4 : tie.Need-returns-4
 unfolding writeFault
 returns-4 c =
-    let prepared = c .before .before .before .before .before .before .before .before .before .before .check-prepare in
-    let if1 = c .before .before .before .before .before .before .before .before .if1 in
-    let length-ok = c .before .before .before .before .before .before .before .length-ok in
-    let if2 = c .before .before .before .before .before .before .if2 in
-    let all-there = c .before .before .before .before .before .all-there in
-    let if3 = c .before .before .before .before .if3 in
-    let marks = c .before .before .before .marks in
-    let no-clash = c .before .before .no-clash in
-    went-on _ _ (prepared .ensures) _ _ (prepare-numbered _) (if1 .left) (rw (holds (length-ok .ensures) (if2 .left), holds (all-there .ensures) (if3 .left), fails (rw (marks .ensures) at (no-clash .ensures)) (c .before .if4 .taken)) (c .refusal3 .ensures))
-
-done-requires : tie.Need-done-requires
-done-requires c κs = search needs
-
-returns-5 : tie.Need-returns-5
-unfolding writeFault
-returns-5 c =
-    let prepared = c .before .before .before .before .before .before .before .before .before .before .check-prepare in
-    let if1 = c .before .before .before .before .before .before .before .before .if1 in
-    let length-ok = c .before .before .before .before .before .before .before .length-ok in
-    let if2 = c .before .before .before .before .before .before .if2 in
-    let all-there = c .before .before .before .before .before .all-there in
-    let if3 = c .before .before .before .before .if3 in
-    let marks = c .before .before .before .marks in
-    let no-clash = c .before .before .no-clash in
-    went-on _ _ (prepared .ensures) _ _ (prepare-numbered _) (if1 .left) (rw (holds (length-ok .ensures) (if2 .left), holds (all-there .ensures) (if3 .left), holds (rw (marks .ensures) at (no-clash .ensures)) (c .before .if4 .left)) (c .done .ensures))
+    let prepared = c .before .before .before .before .before .before .before .before .before .check-prepare in
+    let if1 = c .before .before .before .before .before .before .before .if1 in
+    let length-ok = c .before .before .before .before .before .before .length-ok in
+    let if2 = c .before .before .before .before .before .if2 in
+    let all-there = c .before .before .before .before .all-there in
+    let if3 = c .before .before .before .if3 in
+    let marks = c .before .before .marks in
+    went-on _ _ (prepared .ensures) _ _ (prepare-numbered _) (if1 .left)
+    (rw (holds (length-ok .ensures) (if2 .left), holds (all-there .ensures) (if3 .left)) (rw (c .before .no-clash .ensures, marks .ensures) at (c .refusal-unless .ensures)))
 
 pub check-write-spec : {M : Type 1} → statement M
 check-write-spec =
@@ -97,7 +81,5 @@ check-write-spec =
     returns-3
     marks-requires
     no-clash-requires
-    refusal-requires-3
-    returns-4
-    done-requires
-    returns-5)
+    refusal-unless-requires
+    returns-4)
