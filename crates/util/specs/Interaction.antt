@@ -1,4 +1,5 @@
 -- Interactions, as util.rs has them: what each makes of a sample, its delay in samples, and what muting leaves of it. Assumes nothing.
+use mathlib.Core.Logic.{_⊎_, inl, inr, ⊎-elim}
 use mathlib.Core.Bool.{cond}
 use lib.Ieee.{Float, binary64, add, sub, mul, div, le}
 use Rattle.numbers.specs.Constants.{zero64, one64, tau64}
@@ -95,32 +96,24 @@ lowPassGain =
 
 -- ---- the responses and the limits in use, by name
 
-abbrev respond : Response → Float → Step Response
-respond (Response·Gain g) x = over Response·Gain (gain .process g x)
-respond (Response·LowPassGain p) x = over Response·LowPassGain (lowPassGain .process p x)
+-- one of two interactions: `case` tells which it is, and `left` and `right` make it again
+abbrev pub oneOf : {S T U : Type 0} → (U → S ⊎ T) → (S → U) → (T → U) → Interaction S → Interaction T → Interaction U
+oneOf case left right f g = record {
+  process = λ u x. ⊎-elim (λ s. over left (f .process s x)) (λ t. over right (g .process t x)) (case u);
+  delay = λ u. ⊎-elim (f .delay) (g .delay) (case u);
+  mute = λ u. ⊎-elim (λ s. left (f .mute s)) (λ t. right (g .mute t)) (case u);
+}
 
-abbrev responseDelay : Response → Float
-responseDelay (Response·Gain g) = gain .delay g
-responseDelay (Response·LowPassGain p) = lowPassGain .delay p
-
-abbrev responseMuted : Response → Response
-responseMuted (Response·Gain g) = Response·Gain (gain .mute g)
-responseMuted (Response·LowPassGain p) = Response·LowPassGain (lowPassGain .mute p)
+abbrev responseCase : Response → Float ⊎ LowPassGain
+responseCase (Response·Gain g) = inl g
+responseCase (Response·LowPassGain p) = inr p
 
 abbrev pub responds : Interaction Response
-responds = record { process = respond; delay = responseDelay; mute = responseMuted }
+responds = oneOf responseCase Response·Gain Response·LowPassGain gain lowPassGain
 
-abbrev limit : Limit → Float → Step Limit
-limit (Limit·Gain g) x = over Limit·Gain (gain .process g x)
-limit (Limit·SoftClip s) x = over Limit·SoftClip (softClip .process s x)
-
-abbrev limitDelay : Limit → Float
-limitDelay (Limit·Gain g) = gain .delay g
-limitDelay (Limit·SoftClip s) = softClip .delay s
-
-abbrev limitMuted : Limit → Limit
-limitMuted (Limit·Gain g) = Limit·Gain (gain .mute g)
-limitMuted (Limit·SoftClip s) = Limit·SoftClip (softClip .mute s)
+abbrev limitCase : Limit → Float ⊎ SoftClip
+limitCase (Limit·Gain g) = inl g
+limitCase (Limit·SoftClip s) = inr s
 
 abbrev pub limits : Interaction Limit
-limits = record { process = limit; delay = limitDelay; mute = limitMuted }
+limits = oneOf limitCase Limit·Gain Limit·SoftClip gain softClip

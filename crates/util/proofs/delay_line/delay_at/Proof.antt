@@ -1,7 +1,8 @@
 -- `util::delay_line::delay_at` meets its contract: the offset of a ring is from 0 to its last slot, so it is rounded up as the definition has it. Assumes nothing.
 use native.Mathlib.Omega.{arith}
+use Rattle.magnetron.proofs.Tests.{holds, fails}
 use Rattle.util.specs.DelayLine.{delayAt}
-use Rattle.util.proofs.Ring.{allowed, barred, within}
+use Rattle.util.proofs.Ring.{within}
 use Rattle.util.proofs.Delay.{delay-made}
 use borrow.Author.Needs.{needs}
 use Rattle.util.proofs.delay_line.delay_at.Statement.{statement}
@@ -12,7 +13,7 @@ in-ring-requires c κs = search needs
 
 returns : tie.Need-returns
 unfolding delayAt
-returns c = simp (barred (c .before .in-ring .ensures) (c .if1 .taken))
+returns c = simp (fails (c .before .in-ring .ensures) (c .if1 .taken))
 
 sub-nearest-u64-to-f64 : tie.Need-sub-nearest-u64-to-f64
 sub-nearest-u64-to-f64 c = omega (arith, within _ _ (c .before .in-ring .ensures) (c .if1 .left))
@@ -30,7 +31,7 @@ returns-2 : tie.Need-returns-2
 unfolding delayAt
 returns-2 c =
     let ring = c .before .before .before in
-    simp (allowed (ring .before .in-ring .ensures) (ring .if1 .left))
+    simp (holds (ring .before .in-ring .ensures) (ring .if1 .left))
     (delay-made _ _ (within _ _ (ring .before .in-ring .ensures) (ring .if1 .left) .small)
     (c .before .before .nearest-u64-to-f64 .ensures) (c .before .held .ensures) (c .rounded-up .ensures))
 

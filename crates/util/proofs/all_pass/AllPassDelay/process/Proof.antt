@@ -1,7 +1,8 @@
 -- `util::all_pass::AllPassDelay::process` meets its contract: the test of the code is that of the definition. Assumes nothing.
 use native.Mathlib.Omega.{arith}
+use Rattle.magnetron.proofs.Tests.{holds, fails}
 use Rattle.util.specs.AllPass.{passed}
-use Rattle.util.proofs.Ring.{allowed, barred, within}
+use Rattle.util.proofs.Ring.{within}
 use borrow.Author.Needs.{needs}
 use Rattle.util.proofs.all_pass.AllPassDelay.process.Statement.{statement}
 use Rattle.util.proofs.all_pass.AllPassDelay.process.Tie as tie
@@ -11,7 +12,7 @@ in-ring-requires c κs = search needs
 
 returns : tie.Need-returns
 unfolding passed
-returns c = simp (barred (c .before .in-ring .ensures) (c .if1 .taken))
+returns c = simp (fails (c .before .in-ring .ensures) (c .if1 .taken))
 
 slot-after-requires : tie.Need-slot-after-requires
 slot-after-requires c κs = within _ _ (c .before .in-ring .ensures) (c .if1 .left) .below
@@ -30,7 +31,7 @@ same-length c = search needs
 
 returns-2 : tie.Need-returns-2
 unfolding passed
-returns-2 c = simp (allowed (c .before .before .before .before .before .before .before .in-ring .ensures) (c .before .before .before .before .before .before .if1 .left), c .before .before .before .delayed-sample .ensures, c .before .before .before .before .before .slot-after .ensures .0)
+returns-2 c = simp (holds (c .before .before .before .before .before .before .before .in-ring .ensures) (c .before .before .before .before .before .before .if1 .left), c .before .before .before .delayed-sample .ensures, c .before .before .before .before .before .slot-after .ensures .0)
 
 pub process-spec : {M : Type 1} → statement M
 process-spec =

@@ -1,6 +1,6 @@
 -- `util::comb_filter::CombFilter::mute` meets its contract: the test of the code is that of the definition. Assumes nothing.
+use Rattle.magnetron.proofs.Tests.{holds, fails}
 use Rattle.util.specs.Comb.{combMuted}
-use Rattle.util.proofs.Ring.{allowed, barred}
 use borrow.Author.Needs.{needs}
 use Rattle.util.proofs.comb_filter.CombFilter.mute.Statement.{statement}
 use Rattle.util.proofs.comb_filter.CombFilter.mute.Tie as tie
@@ -10,7 +10,7 @@ in-ring-requires c κs = search needs
 
 returns : tie.Need-returns
 unfolding combMuted
-returns c = simp (barred (c .before .in-ring .ensures) (c .if1 .taken))
+returns c = simp (fails (c .before .in-ring .ensures) (c .if1 .taken))
 
 silence-requires : tie.Need-silence-requires
 silence-requires c κs = search needs
@@ -26,7 +26,7 @@ same-length c = search needs
 
 returns-2 : tie.Need-returns-2
 unfolding combMuted
-returns-2 c = simp (allowed (c .before .before .before .before .before .before .before .before .in-ring .ensures) (c .before .before .before .before .before .before .before .if1 .left), c .before .mute .ensures, c .mute2 .ensures, c .before .before .before .before .before .silence .ensures)
+returns-2 c = simp (holds (c .before .before .before .before .before .before .before .before .in-ring .ensures) (c .before .before .before .before .before .before .before .if1 .left), c .before .mute .ensures, c .mute2 .ensures, c .before .before .before .before .before .silence .ensures)
 
 pub mute-spec : {M : Type 1} → statement M
 mute-spec =

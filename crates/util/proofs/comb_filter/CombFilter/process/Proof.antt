@@ -2,10 +2,11 @@
 use mathlib.Core.Path.{ap}
 use native.Mathlib.Omega.{arith}
 use denote.Ref.{now}
+use Rattle.magnetron.proofs.Tests.{holds, fails}
 use Rattle.util.specs.DelayLine.{readingOf}
 use Rattle.util.specs.Interaction.{responds, limits}
 use Rattle.util.specs.Comb.{combed, combOver, told}
-use Rattle.util.proofs.Ring.{allowed, barred, within}
+use Rattle.util.proofs.Ring.{within}
 use Rattle.util.proofs.Comb.{comb-is}
 use borrow.Author.Needs.{needs}
 use Rattle.util.proofs.comb_filter.CombFilter.process.Statement.{statement}
@@ -16,7 +17,7 @@ in-ring-requires c κs = search needs
 
 returns : tie.Need-returns
 unfolding combed
-returns c = simp (barred (c .before .in-ring .ensures) (c .if1 .taken))
+returns c = simp (fails (c .before .in-ring .ensures) (c .if1 .taken))
 
 slot-after-requires : tie.Need-slot-after-requires
 slot-after-requires c κs = within _ _ (c .before .in-ring .ensures) (c .if1 .left) .below
@@ -43,7 +44,7 @@ returns-2 : tie.Need-returns-2
 unfolding combed
 returns-2 c =
     let a = c .before .before .before .before .before .before .before .before .before .args in
-    simp (allowed (c .before .before .before .before .before .before .before .in-ring .ensures) (c .before .before .before .before .before .before .if1 .left))
+    simp (holds (c .before .before .before .before .before .before .before .in-ring .ensures) (c .before .before .before .before .before .before .if1 .left))
     (ap told (comb-is responds limits (readingOf (a .read)) (combOver (a .self) (now (a .ring))) (a .input) (c .before .before .before .before .before .slot-after .ensures .0) (c .before .before .before .delayed-sample .ensures) (c .before .before .process-sample .ensures) (c .process-sample2 .ensures)))
 
 pub process-spec : {M : Type 1} → statement M

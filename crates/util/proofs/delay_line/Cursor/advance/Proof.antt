@@ -1,6 +1,7 @@
 -- `util::delay_line::Cursor::advance` meets its contract: the test of the code is that of the definition. Assumes nothing.
+use Rattle.magnetron.proofs.Tests.{holds, fails}
 use Rattle.util.specs.DelayLine.{advanced}
-use Rattle.util.proofs.Ring.{allowed, barred, within}
+use Rattle.util.proofs.Ring.{within}
 use borrow.Author.Needs.{needs}
 use Rattle.util.proofs.delay_line.Cursor.advance.Statement.{statement}
 use Rattle.util.proofs.delay_line.Cursor.advance.Tie as tie
@@ -10,14 +11,14 @@ in-ring-requires c κs = search needs
 
 returns : tie.Need-returns
 unfolding advanced
-returns c = simp (barred (c .before .in-ring .ensures) (c .if1 .taken))
+returns c = simp (fails (c .before .in-ring .ensures) (c .if1 .taken))
 
 slot-after-requires : tie.Need-slot-after-requires
 slot-after-requires c κs = within _ _ (c .before .in-ring .ensures) (c .if1 .left) .below
 
 returns-2 : tie.Need-returns-2
 unfolding advanced
-returns-2 c = simp (allowed (c .before .before .in-ring .ensures) (c .before .if1 .left), c .slot-after .ensures .0)
+returns-2 c = simp (holds (c .before .before .in-ring .ensures) (c .before .if1 .left), c .slot-after .ensures .0)
 
 pub advance-spec : {M : Type 1} → statement M
 advance-spec = tie.close (tie.spec in-ring-requires returns slot-after-requires returns-2)

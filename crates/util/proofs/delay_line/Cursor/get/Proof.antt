@@ -1,7 +1,8 @@
 -- `util::delay_line::Cursor::get` meets its contract: the test of the code is that of the definition. Assumes nothing.
 use native.Mathlib.Omega.{arith}
+use Rattle.magnetron.proofs.Tests.{holds, fails}
 use Rattle.util.specs.DelayLine.{heard}
-use Rattle.util.proofs.Ring.{allowed, barred, within}
+use Rattle.util.proofs.Ring.{within}
 use borrow.Author.Needs.{needs}
 use Rattle.util.proofs.delay_line.Cursor.get.Statement.{statement}
 use Rattle.util.proofs.delay_line.Cursor.get.Tie as tie
@@ -11,14 +12,14 @@ in-ring-requires c κs = search needs
 
 returns : tie.Need-returns
 unfolding heard
-returns c = simp (barred (c .before .in-ring .ensures) (c .if1 .taken))
+returns c = simp (fails (c .before .in-ring .ensures) (c .if1 .taken))
 
 delayed-sample-requires : tie.Need-delayed-sample-requires
 delayed-sample-requires c κs = omega (arith, within _ _ (c .before .in-ring .ensures) (c .if1 .left))
 
 returns-2 : tie.Need-returns-2
 unfolding heard
-returns-2 c = simp (allowed (c .before .before .in-ring .ensures) (c .before .if1 .left), c .delayed-sample .ensures)
+returns-2 c = simp (holds (c .before .before .in-ring .ensures) (c .before .if1 .left), c .delayed-sample .ensures)
 
 pub get-spec : {M : Type 1} → statement M
 get-spec = tie.close (tie.spec in-ring-requires returns delayed-sample-requires returns-2)
