@@ -1,4 +1,4 @@
--- Laws that belong to no one function, and the theorem that reading and writing undo each other. Assumes nothing.
+-- The laws that the proofs of functions cite, and the theorem that reading and writing undo each other. Assumes nothing.
 pub mod Nan
 pub mod Eight
 pub mod Front

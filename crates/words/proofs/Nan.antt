@@ -1,6 +1,7 @@
 -- Which words and which numbers are NaN.
 --     word-nan     a word is NaN's just where it is above infinity's, the sign apart
---     number-nan   a number differs from itself just where it is NaN
+--     is-nan       there is one NaN
+--     no-nan       a number that is equal to itself is none
 -- Assumes nothing.
 use mathlib.Core.Path.{_≡_, refl, sym, _∙_}
 use mathlib.Core.Bool.{true, false}

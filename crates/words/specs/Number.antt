@@ -1,9 +1,9 @@
--- "An f64 is its bits; on output every NaN is 7ff8000000000000." Assumes nothing.
+-- "An f64 is its bits. Every NaN that is read is one NaN ..; every NaN that is written is 7ff8000000000000." (crates/replay/FORMAT.md) Assumes nothing.
 use Prim.Native.Nat.{ℕ}
 use mathlib.Core.Bool.{cond}
 use lib.Ieee.{Float, binary64, ofBits, toBits, isNan}
 
--- the number whose bits a word is; whatever a NaN's bits are, it is the one NaN
+-- the number whose bits a word is
 abbrev pub fromWord : ℕ → Float
 fromWord w = ofBits binary64 w
 

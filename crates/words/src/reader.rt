@@ -1,4 +1,5 @@
 // Taking words from a lent buffer.
+use crate::number::from_word;
 ghost use mathlib.Core.Path.{_≡_};
 ghost use mathlib.Core.List.{[], _∷_};
 ghost use Prim.Native.Nat.{_+_, _-_, _≤_};
@@ -6,7 +7,6 @@ ghost use lib.ListN.{length, take, drop};
 ghost use lib.Seq.{paste};
 ghost use Rattle.words.specs.Word.{wordOf};
 ghost use Rattle.words.specs.Reader.{takenOf, frontOf, filledOf};
-use crate::number::from_word;
 
 // What is left of a lent buffer: its bytes from `at` up to, not including, `end`.
 pub struct Cursor {
@@ -102,6 +102,7 @@ fn move_down(bytes: &mut [u8], at: usize, n: usize)
     }
 }
 
+// The word that the eight bytes from `at` on make.
 fn word_at(bytes: &[u8], at: usize) -> u64
     requires { ⌜ at + 8 ≤ length (now bytes) ⌝ }
     ensures { λ r. ⌜ r ≡ wordOf (take 8 (drop at (now (bytes .entry)))) ⌝ }
@@ -118,6 +119,7 @@ fn word_at(bytes: &[u8], at: usize) -> u64
     )
 }
 
+// The word of eight bytes, the lowest first.
 fn joined(a: u8, b: u8, c: u8, d: u8, e: u8, f: u8, g: u8, h: u8) -> u64
     ensures { λ r. ⌜ r ≡ wordOf (a ∷ b ∷ c ∷ d ∷ e ∷ f ∷ g ∷ h ∷ []) ⌝ }
 {

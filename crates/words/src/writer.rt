@@ -1,11 +1,11 @@
 // Putting words into a lent buffer.
+use crate::number::to_word;
 ghost use mathlib.Core.Path.{_≡_};
 ghost use Prim.Native.Nat.{_+_, _≤_, _%_};
 ghost use lib.ListN.{length};
 ghost use lib.Seq.{sets};
 ghost use Rattle.words.specs.Word.{bytesOf};
 ghost use Rattle.words.specs.Writer.{putOf, pouredOf};
-use crate::number::to_word;
 
 pub enum Stored {
     // Where the next word goes.
@@ -64,6 +64,7 @@ fn put_at(bytes: &mut [u8], at: usize, word: u64)
     }
 }
 
+// The lowest byte.
 fn low(x: u64) -> u8
     ensures { λ r. ⌜ r ≡ x % 256 ⌝ }
 {
