@@ -13,6 +13,7 @@ use Rattle.magnetron.proofs.pool.Pools.marks.Reads as marks
 use Rattle.magnetron.proofs.pool.Pools.with_marks.Reads as with-marks
 use Rattle.magnetron.proofs.pool.Pools.set_reset.Reads as set-reset
 use Rattle.magnetron.proofs.pool.Pools.base_of.Reads as base-of
+use Rattle.magnetron.proofs.pool.fill_with_zeros.Reads as fill-with-zeros
 use Rattle.magnetron.proofs.pool.new_pool.Reads as new-pool
 use Rattle.magnetron.proofs.pool.prepare.Reads as prepare
 use Rattle.magnetron.proofs.check.done.Reads as done
@@ -42,8 +43,8 @@ pub buffer-determined : Answer stage-activity.Post × Answer same-buffer.Post ×
 buffer-determined = (by-definition, by-definition, by-definition, by-definition)
 
 pub pool-determined : Answer marks.Post × Answer with-marks.Post × Answer set-reset.Post × Answer base-of.Post
-    × Determined (λ r s. outcome r (now (s .1 .1 .0))) new-pool.Post × Answer prepare.Post
-pool-determined = (by-definition, by-definition, by-definition, by-definition, by-definition, by-definition)
+    × Determined (λ r s. now (s .0)) fill-with-zeros.Post × Determined (λ r s. outcome r (now (s .1 .1 .0))) new-pool.Post × Answer prepare.Post
+pool-determined = (by-definition, by-definition, by-definition, by-definition, by-definition, by-definition, by-definition)
 
 pub check-determined : Answer done.Post × Answer refusal.Post × Answer pool-ok.Post × Answer shape-ok.Post × Answer window-ok.Post × Answer has.Post
     × Answer all-there.Post × Answer is-input.Post × Answer no-clash.Post × Answer check-prepare.Post

@@ -53,7 +53,8 @@ fn fresh_pool(count: usize, capacity: usize) -> Pool
     }
 }
 
-fn fill_with_zeros(samples: &mut [f64])
+// "A new pool holds zeros"; a muted ring does too.
+pub fn fill_with_zeros(samples: &mut [f64])
     ensures { λ _. ⌜ now (samples .exit) ≡ replicate (length (now (samples .entry))) zero64 ⌝ }
 {
     let mut i = 0;

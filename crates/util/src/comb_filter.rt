@@ -7,13 +7,13 @@ use crate::delay_line::Read;
 use crate::delay_line::delayed_sample;
 use crate::delay_line::heard_at;
 use crate::delay_line::in_ring;
-use crate::delay_line::silence;
 use crate::delay_line::slot_after;
 use crate::interaction::Limit;
 use crate::interaction::LowPassGain;
 use crate::interaction::Response;
 use crate::soft_clip::SoftClip;
 use magnetron::check::Verdict;
+use magnetron::pool::fill_with_zeros;
 ghost use mathlib.Core.Path.{_≡_};
 ghost use Prim.Native.Nat.{_<_, _≤_};
 ghost use lib.ListN.{length};
@@ -64,7 +64,7 @@ impl CombFilter {
                 comb: self,
             };
         }
-        silence(ring);
+        fill_with_zeros(ring);
         let cursor = self.cursor;
         let response = self.response;
         let limit = self.limit;

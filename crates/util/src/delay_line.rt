@@ -1,9 +1,9 @@
 // The delay line: a cursor by value over a ring that the host lends. The ring's length is the slice's.
 use magnetron::check::Verdict;
+use magnetron::pool::fill_with_zeros;
 ghost use mathlib.Core.Path.{_≡_};
 ghost use Prim.Native.Nat.{_+_, _-_, _%_, _<_, _≤_};
-ghost use lib.ListN.{length, replicate};
-ghost use Rattle.numbers.specs.Constants.{zero64};
+ghost use lib.ListN.{length};
 ghost use Rattle.numbers.specs.Outcome.{outcome};
 ghost use Rattle.util.specs.DelayLine.{inRing, nextSlot, delayed, delayedBy, delayedFract, delayAt, readingOf, advanced, heard, written, muted};
 
@@ -124,17 +124,6 @@ pub(crate) fn delayed_sample(ring: &[f64], position: usize, read: Read) -> f64
     }
 }
 
-// Each slot is 0.0.
-pub(crate) fn silence(ring: &mut [f64])
-    ensures { λ _. ⌜ now (ring .exit) ≡ replicate (length (now (ring .entry))) zero64 ⌝ }
-{
-    let mut i = 0;
-    while i < ring.len() {
-        ring[i] = 0.0;
-        i += 1;
-    }
-}
-
 impl Cursor {
     // One slot round the ring.
     pub fn advance(mut self, length: usize) -> Moved
@@ -201,7 +190,7 @@ impl Cursor {
         if !in_ring(self.position, ring.len()) {
             return REFUSED;
         }
-        silence(ring);
+        fill_with_zeros(ring);
         DONE
     }
 }

@@ -12,8 +12,8 @@ returns : tie.Need-returns
 unfolding combMuted
 returns c = simp (fails (c .before .in-ring .ensures) (c .if1 .taken))
 
-silence-requires : tie.Need-silence-requires
-silence-requires c κs = search needs
+fill-with-zeros-requires : tie.Need-fill-with-zeros-requires
+fill-with-zeros-requires c κs = search needs
 
 mute-requires : tie.Need-mute-requires
 mute-requires c κs = search needs
@@ -26,7 +26,7 @@ same-length c = search needs
 
 returns-2 : tie.Need-returns-2
 unfolding combMuted
-returns-2 c = simp (holds (c .before .before .before .before .before .before .before .before .in-ring .ensures) (c .before .before .before .before .before .before .before .if1 .left), c .before .mute .ensures, c .mute2 .ensures, c .before .before .before .before .before .silence .ensures)
+returns-2 c = simp (holds (c .before .before .before .before .before .before .before .before .in-ring .ensures) (c .before .before .before .before .before .before .before .if1 .left), c .before .mute .ensures, c .mute2 .ensures, c .before .before .before .before .before .fill-with-zeros .ensures)
 
 pub mute-spec : {M : Type 1} → statement M
 mute-spec =
@@ -34,7 +34,7 @@ mute-spec =
     (tie.spec
     in-ring-requires
     returns
-    silence-requires
+    fill-with-zeros-requires
     mute-requires
     mute-requires-2
     same-length

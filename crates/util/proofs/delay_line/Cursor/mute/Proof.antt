@@ -12,15 +12,15 @@ returns : tie.Need-returns
 unfolding muted
 returns c = simp (fails (c .before .in-ring .ensures) (c .if1 .taken))
 
-silence-requires : tie.Need-silence-requires
-silence-requires c κs = search needs
+fill-with-zeros-requires : tie.Need-fill-with-zeros-requires
+fill-with-zeros-requires c κs = search needs
 
 same-length : tie.Need-same-length
 same-length c = search needs
 
 returns-2 : tie.Need-returns-2
 unfolding muted
-returns-2 c = simp (holds (c .before .before .before .before .before .in-ring .ensures) (c .before .before .before .before .if1 .left), c .before .before .silence .ensures)
+returns-2 c = simp (holds (c .before .before .before .before .before .in-ring .ensures) (c .before .before .before .before .if1 .left), c .before .before .fill-with-zeros .ensures)
 
 pub mute-spec : {M : Type 1} → statement M
-mute-spec = tie.close (tie.spec in-ring-requires returns silence-requires same-length returns-2)
+mute-spec = tie.close (tie.spec in-ring-requires returns fill-with-zeros-requires same-length returns-2)
