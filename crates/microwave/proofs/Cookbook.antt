@@ -11,7 +11,7 @@ use native.Mathlib.Numerals.{add-one, add-two}
 use native.Mathlib.Omega.{arith}
 use lib.ListN.{length}
 use Rattle.microwave.specs.Arithmetic.{Arithmetic, Field}
-use Rattle.microwave.specs.Biquads.{Kind, LowPass2, HighPass2, BandPass, Notch, AllPass, Coefficients, Memory, alphaOf, coefficientsOf, stepOf, runOf, inputAt, outputAt}
+use Rattle.microwave.specs.Biquads.{Kind, LowPass2, HighPass2, BandPass, Notch, AllPass, Coefficients, Memory, alphaOf, coefficientsOf, stepOf, filtered, inputAt, outputAt}
 use Rattle.microwave.specs.Cookbook.{alpha, cookbook, equation}
 use Rattle.microwave.proofs.Fields.{negated-twice, negated-⊗, ⊕-⊘, ⊖-⊘, ⊗-⊘, ⊘-⊘}
 
@@ -38,7 +38,7 @@ module _ {A : Arithmetic} (F : Field A) where
     pub run-agrees : (m : Memory Number) (xs : List Number) (n : ℕ) → n < length xs →
         outputAt A k m xs (n + 2)
         ≡ equation A k (inputAt A m xs (n + 2)) (inputAt A m xs (n + 1)) (inputAt A m xs n) (outputAt A k m xs (n + 1)) (outputAt A k m xs n)
-    unfolding runOf
+    unfolding filtered
     run-agrees m [] n h = absurd (omega arith)
     run-agrees m (x ∷ xs) none h = step-agrees m x
     run-agrees m (x ∷ xs) (suc n) h =

@@ -1,4 +1,5 @@
--- The operations that a filter's formulas are written in. A formula is written once, over any arithmetic, and read twice: in f64, where each operation rounds once, as the contracts have it, and in a field, where nothing rounds, as the theorems have it. Assumes nothing.
+-- The operations that formulas are written in. In f64 each operation rounds once: so the contracts have it. The biquads' formulas are written once, over any arithmetic,
+-- and read a second time in a field, where nothing rounds: so the theorems on the Cookbook have it. Assumes nothing.
 use mathlib.Core.Path.{_≡_}
 use lib.Ieee.{Float, binary64, ofBits, add, sub, mul, div, neg}
 use Rattle.numbers.specs.Constants.{zero64, one64}

@@ -70,13 +70,13 @@ module _ (A : Arithmetic) where
       record { memory = record { y1 = y0; y2 = m .y1; x1 = x0; x2 = m .x1 }; sample = y0 }
 
   -- the samples that come out for a list of inputs
-  unfoldable pub runOf : Coefficients Number → Memory Number → List Number → List Number
-  runOf k m [] = []
-  runOf k m (x0 ∷ xs) = stepOf k m x0 .sample ∷ runOf k (stepOf k m x0 .memory) xs
+  unfoldable pub filtered : Coefficients Number → Memory Number → List Number → List Number
+  filtered k m [] = []
+  filtered k m (x0 ∷ xs) = stepOf k m x0 .sample ∷ filtered k (stepOf k m x0 .memory) xs
 
   -- input and output n of a run, counted from the memory's older pair, which stand in front: sample n of the run has place n + 2
   abbrev pub inputAt : Memory Number → List Number → ℕ → Number
   inputAt m xs n = getD (m .x2 ∷ m .x1 ∷ xs) n zero
 
   abbrev pub outputAt : Coefficients Number → Memory Number → List Number → ℕ → Number
-  outputAt k m xs n = getD (m .y2 ∷ m .y1 ∷ runOf k m xs) n zero
+  outputAt k m xs n = getD (m .y2 ∷ m .y1 ∷ filtered k m xs) n zero

@@ -1,12 +1,13 @@
--- Oscillators: the waves of oscillator.rs, what a window works out once, and the machine of a sample: what it leaves of the memory, and what it answers.
+-- Oscillators: what a window works out once, the waves of oscillator.rs, and one sample: what it answers, and what it leaves of the memory.
 -- Rests on the small functions of f64 and the sine of turns. Assumes nothing.
 use Prim.Native.Nat.{ℕ}
 use mathlib.Core.Bool.{cond}
 use lib.IntN.{pos}
-use lib.Ieee.{Float, binary64, ofBits, add, sub, mul, div, neg, lt, ofInt}
-use Rattle.numbers.specs.Constants.{one64, half64, quarter64, three-quarters64}
+use lib.Ieee.{Float, binary64, ofBits, neg, lt, ofInt}
+use Rattle.numbers.specs.Constants.{half64, quarter64, three-quarters64}
 use Rattle.numbers.specs.Small.{absOf, fractOf, remEuclidOf}
 use Rattle.numbers.specs.Turns.{sineOf}
+use Rattle.microwave.specs.Arithmetic.{Arithmetic, f64-arithmetic}
 use Rattle.microwave.specs.declared.oscillator.OscillatorType.{OscillatorType}
 use Rattle.microwave.specs.declared.oscillator.OscillatorType.the-variants.{Sin, Sin3, Triangle, Square, Sawtooth}
 use Rattle.microwave.specs.declared.oscillator.Modulation.{Modulation}
@@ -16,30 +17,19 @@ use Rattle.microwave.specs.declared.oscillator.Driven.the-variants.{Plai
 use Rattle.microwave.specs.declared.oscillator.Phases.{Phases}
 use Rattle.microwave.specs.declared.oscillator.Oscillator.{Oscillator}
 use Rattle.microwave.specs.declared.oscillator.Oscillated.{Oscillated}
+open Arithmetic f64-arithmetic using (one, two, _⊕_, _⊖_, _⊗_, _⊘_)
 
-abbrev pub two64 : Float
-two64 = ofBits binary64 0x4000_0000_0000_0000
-
-abbrev pub four64 : Float
-four64 = ofBits binary64 0x4010_0000_0000_0000
-
--- "Waves as in oscillator.rs; Square of NaN is -1."
-unfoldable pub waveOf : OscillatorType → Float → Float
-waveOf Sin phase = sineOf phase
-waveOf Sin3 phase = mul binary64 (mul binary64 (sineOf phase) (sineOf phase)) (sineOf phase)
--- (((0.75 + phase).fract() - 0.5).abs() - 0.25) * 4.0
-waveOf Triangle phase = mul binary64 (sub binary64 (absOf (sub binary64 (fractOf (add binary64 three-quarters64 phase)) half64)) quarter64) four64
-waveOf Square phase = cond (lt phase half64) one64 (neg one64)
--- ((0.5 + phase).fract() - 0.5) * 2.0
-waveOf Sawtooth phase = mul binary64 (sub binary64 (fractOf (add binary64 half64 phase)) half64) two64
+-- ---- the start of a window
 
 -- "dp = frequency*w + (phase - saved)/n"
 abbrev pub dPhaseOf : Float → Float → Float → Float → ℕ → Float
-dPhaseOf frequency phase saved w n = add binary64 (mul binary64 frequency w) (div binary64 (sub binary64 phase saved) (ofInt binary64 (pos n)))
+dPhaseOf frequency phase saved w n = frequency ⊗ w ⊕ (phase ⊖ saved) ⊘ ofInt binary64 (pos n)
 
 -- "saved = phase"
 abbrev pub entered : Phases → Float → Phases
 entered p phase = record { phase = p .phase; saved = phase }
+
+-- ---- one sample
 
 -- how a modulated oscillator runs
 abbrev pub drivenBy : Modulation → Driven
@@ -49,21 +39,32 @@ drivenBy Modulation.ByFrequency = ByFrequency
 -- "ByPhase reads the wave at rem_euclid(phase + s)", the others at the phase
 abbrev pub placeOf : Driven → Float → Float → Float
 placeOf Plain phase s = phase
-placeOf ByPhase phase s = remEuclidOf (add binary64 phase s)
+placeOf ByPhase phase s = remEuclidOf (phase ⊕ s)
 placeOf ByFrequency phase s = phase
 
 -- "ByFrequency steps by (phase + dp) + s*w", the others by phase + dp
 abbrev pub bentOf : Driven → Float → Float → Float
 bentOf Plain moved bend = moved
 bentOf ByPhase moved bend = moved
-bentOf ByFrequency moved bend = add binary64 moved bend
+bentOf ByFrequency moved bend = moved ⊕ bend
+
+abbrev four64 : Float
+four64 = ofBits binary64 0x4010_0000_0000_0000
+
+-- "Waves as in oscillator.rs; Square of NaN is -1."
+unfoldable pub waveOf : OscillatorType → Float → Float
+waveOf Sin phase = sineOf phase
+waveOf Sin3 phase = sineOf phase ⊗ sineOf phase ⊗ sineOf phase
+waveOf Triangle phase = (absOf (fractOf (three-quarters64 ⊕ phase) ⊖ half64) ⊖ quarter64) ⊗ four64
+waveOf Square phase = cond (lt phase half64) one (neg one)
+waveOf Sawtooth phase = (fractOf (half64 ⊕ phase) ⊖ half64) ⊗ two
 
 -- "Signal first, then phase = rem_euclid(phase + dp).": the signal is read where the phase stood. `saved` stays.
 unfoldable pub oscillatorOut : Oscillator → Phases → Float → Float
 oscillatorOut o p s = waveOf (o .«oscillator_type») (placeOf (o .driven) (p .phase) s)
 
 unfoldable pub oscillatorNext : Oscillator → Phases → Float → Phases
-oscillatorNext o p s = record { phase = remEuclidOf (bentOf (o .driven) (add binary64 (p .phase) (o .«d_phase»)) (mul binary64 s (o .«sample_width»))); saved = p .saved }
+oscillatorNext o p s = record { phase = remEuclidOf (bentOf (o .driven) (p .phase ⊕ o .«d_phase») (s ⊗ o .«sample_width»)); saved = p .saved }
 
 abbrev pub oscillated : Oscillator → Phases → Float → Oscillated
 oscillated o p s = record { phases = oscillatorNext o p s; sample = oscillatorOut o p s }

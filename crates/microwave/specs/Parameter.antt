@@ -1,4 +1,4 @@
--- The number that stands for a parameter in a window. Assumes nothing.
+-- The number that stands for a parameter in a window, and check 6 where there is none (01, "Buffers"). Assumes nothing.
 use Prim.Native.Nat.{ℕ, _≤_}
 use mathlib.Core.Bool.{Bool, true, cond, _&&_}
 use mathlib.Core.List.{List, [], _∷_}
@@ -16,11 +16,7 @@ use Rattle.microwave.specs.declared.parameter.Asks.the-variants.{Nothing
 use Rattle.microwave.specs.declared.parameter.Numbers.{Numbers}
 use Rattle.microwave.specs.declared.parameter.AllThree.{AllThree}
 
--- what is asked for a required parameter
-abbrev pub required : Parameter → Ask
-required parameter = record { parameter = parameter; absent = Missing }
-
--- "A parameter is a fixed number, a slot, the window's seconds (sample width w times n), or absent."
+-- "A parameter is a fixed number, a slot, the window's seconds (sample width w times n), or absent.": `absent` is what stands for it then
 abbrev pub numberIn : Parameter → Found → List Float → Float → Found
 numberIn (Fixed x) absent values seconds = Number x
 numberIn (Slot i) absent values seconds = cond (ltb i (length values)) (Number (getD values i nan)) Missing
@@ -29,6 +25,13 @@ numberIn Absent absent values seconds = absent
 
 abbrev pub looked : Ask → List Float → Float → Found
 looked ask values seconds = numberIn (ask .parameter) (ask .absent) values seconds
+
+-- "Only out_level and phase may be absent.": every other parameter is required, and 0.0 stands for an absent phase. For an absent out_level a run has 1.0.
+abbrev pub required : Parameter → Ask
+required parameter = record { parameter = parameter; absent = Missing }
+
+abbrev pub orZero : Parameter → Ask
+orZero parameter = record { parameter = parameter; absent = Number zero64 }
 
 -- What 01 has for each case of the answer: the number that a run returns, and the value that stands for the parameter.
 pub record Reported : Type 0 where
@@ -45,11 +48,7 @@ pub data Refused (values : List Float) : Parameter → Found → Type 0 where
   slot-past : {i : ℕ} {absent : Found} → length values ≤ i → Refused values (Slot i) absent
   required-absent : Refused values Absent Missing
 
--- ---- what a stage asks for
-
--- "Only out_level and phase may be absent.": where such a parameter is, 0.0 stands for it
-abbrev pub orZero : Parameter → Ask
-orZero parameter = record { parameter = parameter; absent = Number zero64 }
+-- ---- what a stage asks for: up to three parameters beside out_level
 
 abbrev pub askList : Asks → List Ask
 askList Nothing = []

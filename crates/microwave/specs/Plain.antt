@@ -1,8 +1,10 @@
 -- The stages without memory, a sample at a time: Pass, Pow3, Clip and RingModulator. Rests on the small functions of f64. Assumes nothing.
-use lib.Ieee.{Float, binary64, mul, neg}
+use lib.Ieee.{Float, neg}
 use Rattle.numbers.specs.Small.{absOf, maxOf, minOf}
+use Rattle.microwave.specs.Arithmetic.{Arithmetic, f64-arithmetic}
 use Rattle.microwave.specs.declared.plain.Shape.{Shape}
 use Rattle.microwave.specs.declared.plain.Shape.the-variants.{Pass, Pow3, Clip, RingModulator}
+open Arithmetic f64-arithmetic using (_⊗_)
 
 -- "Clip: limit |l|, max(s, -limit), then min."
 abbrev pub clipLimit : Float → Float
@@ -14,6 +16,6 @@ clipped limit s = minOf (maxOf s (neg limit)) limit
 -- as mod.rs has them, with the multiplications from left to right
 abbrev pub shapedOf : Shape → Float → Float → Float
 shapedOf Pass first second = first
-shapedOf Pow3 first second = mul binary64 (mul binary64 first first) first
+shapedOf Pow3 first second = first ⊗ first ⊗ first
 shapedOf (Clip limit) first second = clipped limit first
-shapedOf RingModulator first second = mul binary64 first second
+shapedOf RingModulator first second = first ⊗ second

@@ -3,8 +3,8 @@ use Prim.Native.Nat.{ℕ, _+_, _<_, _≤_}
 use mathlib.Core.List.{List}
 use lib.IntN.{pos}
 use lib.ListN.{length}
-use lib.Ieee.{Float, binary64, ofBits, sub, mul, div, neg, ofInt}
-use Rattle.numbers.specs.Constants.{zero64, half64, one64}
+use lib.Ieee.{Float, binary64, ofBits, neg, ofInt}
+use Rattle.numbers.specs.Constants.{half64}
 use Rattle.numbers.specs.Small.{heldOf}
 use Rattle.util.specs.DelayLine.{delayAt}
 use Rattle.util.specs.Interaction.{Step, over, dampingOf, lowPassAt, lowPassGain}
@@ -12,32 +12,34 @@ use Rattle.util.specs.Comb.{Comb, tunedStep}
 use Rattle.util.specs.declared.comb_filter.TunedComb.{TunedComb}
 use Rattle.util.specs.declared.interaction.LowPassGain.{LowPassGain}
 use Rattle.util.specs.declared.soft_clip.SoftClip.{SoftClip}
+use Rattle.microwave.specs.Arithmetic.{Arithmetic, f64-arithmetic}
 use Rattle.microwave.specs.declared.waveguide.Reflectance.{Reflectance}
 use Rattle.microwave.specs.declared.waveguide.Reflectance.the-variants.{Positive, Negative}
 use Rattle.microwave.specs.declared.waveguide.StringMemory.{StringMemory}
 use Rattle.microwave.specs.declared.waveguide.Guide.{Guide}
+open Arithmetic f64-arithmetic using (zero, one, _⊖_, _⊗_, _⊘_)
 
 -- "factors 1 and 1, or -1 and 0.5"
 abbrev pub feedbackFactor : Reflectance → Float
-feedbackFactor Positive = one64
-feedbackFactor Negative = neg one64
+feedbackFactor Positive = one
+feedbackFactor Negative = neg one
 
 abbrev pub lengthFactor : Reflectance → Float
-lengthFactor Positive = one64
+lengthFactor Positive = one
 lengthFactor Negative = half64
 
 -- "response is feedback*factor times the low-passed sample", with the low-pass at its state
 abbrev pub responseAt : Float → Float → Float → LowPassGain
 responseAt damping gain state = record { first = lowPassAt damping state; second = gain }
 
--- "Waveguide: low-pass rate 1/w; length_factor/(w*frequency) minus the low-pass delay, over buffer_size, held to 0..1". The delay of the
--- low-pass does not look at its state. "ring length is one more"
+-- "low-pass rate 1/w; length_factor/(w*frequency) minus the low-pass delay, over buffer_size, held to 0..1". The low-pass delay is the same
+-- at any state. "ring length is one more"
 unfoldable pub guideOf : Reflectance → ℕ → Float → Float → Float → Float → Guide
 guideOf reflectance size frequency cutoff feedback w =
-    let damping = dampingOf cutoff (div binary64 one64 w) in
-    let gain = mul binary64 feedback (feedbackFactor reflectance) in
-    let skip = sub binary64 (div binary64 (lengthFactor reflectance) (mul binary64 w frequency)) (lowPassGain .delay (responseAt damping gain zero64)) in
-    let fract = heldOf (div binary64 skip (ofInt binary64 (pos size))) zero64 one64 in
+    let damping = dampingOf cutoff (one ⊘ w) in
+    let gain = feedback ⊗ feedbackFactor reflectance in
+    let skip = lengthFactor reflectance ⊘ (w ⊗ frequency) ⊖ lowPassGain .delay (responseAt damping gain zero) in
+    let fract = heldOf (skip ⊘ ofInt binary64 (pos size)) zero one in
     record { damping = damping; gain = gain; delay = delayAt (size + 1) fract }
 
 -- ---- one sample
@@ -56,9 +58,9 @@ pub record InRing (k : Guide) (s : Strung) : Type 0 where
   pub short : length (s .ring) ≤ 32768
   pub delay : k .delay .whole < length (s .ring)
 
--- "comb with SoftClip 0.9"
-abbrev pub tunedTo : Guide → StringMemory → TunedComb
-tunedTo k m = record {
+-- "comb with SoftClip 0.9", as the string's memory has it
+abbrev pub combOf : Guide → StringMemory → TunedComb
+combOf k m = record {
   cursor = record { position = m .position };
   response = responseAt (k .damping) (k .gain) (m .«low_pass»);
   limit = record { «linear_until» = ofBits binary64 0x3fec_cccc_cccc_cccd };
@@ -69,7 +71,7 @@ abbrev pub leftBy : Comb LowPassGain SoftClip → Strung
 leftBy c = strung (record { «low_pass» = c .response .first .state; position = c .position }) (c .ring)
 
 unfoldable pub stringStep : Guide → Strung → Float → Step Strung
-stringStep k s x = over leftBy (tunedStep (k .delay) (tunedTo k (s .memory)) (s .ring) x)
+stringStep k s x = over leftBy (tunedStep (k .delay) (combOf k (s .memory)) (s .ring) x)
 
 -- a step's two parts
 abbrev pub stringNext : Guide → Strung → Float → Strung

@@ -1,4 +1,5 @@
-// The seven filters as machines: coefficients once per window, one step per sample, in the Rust's order of operations.
+// The seven filters as machines: coefficients once per window, one step per sample, in the order of operations of filter.rs, whose port this is.
+// Rests on the small functions of f64 and the sine and cosine of turns, of `numbers`.
 use crate::parameter::Asks;
 use crate::parameter::Parameter;
 use crate::parameter::required;
@@ -110,12 +111,13 @@ impl FilterType {
     }
 }
 
+// A one-pole's kind, with its coefficient for a window.
 pub enum OnePole {
     LowPass { alpha: f64 },
     HighPass { alpha: f64 },
 }
 
-// The low-pass's last output; the high-pass's last output and last input.
+// A one-pole's memory: the low-pass's last output; the high-pass's last output and last input.
 #[repr(C)]
 pub struct OnePoleMemory {
     pub low: f64,
@@ -169,6 +171,7 @@ fn high_pass_alpha(cutoff: f64, w: f64) -> f64
     1.0 / (1.0 + omega)
 }
 
+// A biquad's coefficients for a window.
 pub struct Coefficients {
     pub b0: f64,
     pub b1: f64,
@@ -178,7 +181,7 @@ pub struct Coefficients {
     pub a2: f64,
 }
 
-// The last two outputs and the last two inputs.
+// A biquad's memory: the last two outputs and the last two inputs.
 #[repr(C)]
 pub struct Biquad {
     pub y1: f64,
@@ -187,14 +190,14 @@ pub struct Biquad {
     pub x2: f64,
 }
 
-pub struct Stepped {
+pub struct BiquadStepped {
     pub memory: Biquad,
     pub sample: f64,
 }
 
 impl Biquad {
-    // One sample, for every kind.
-    pub fn step(mut self, k: Coefficients, x0: f64) -> Stepped
+    // One sample, the same for all five kinds: the sum from left to right, then one quotient.
+    pub fn step(mut self, k: Coefficients, x0: f64) -> BiquadStepped
         ensures { λ r. ⌜ r ≡ biquadStep k self x0 ⌝ }
     {
         let sum = k.b0 * x0 + k.b1 * self.x1 + k.b2 * self.x2 - k.a1 * self.y1 - k.a2 * self.y2;
@@ -203,7 +206,7 @@ impl Biquad {
         self.x1 = x0;
         self.y2 = self.y1;
         self.y1 = y0;
-        Stepped {
+        BiquadStepped {
             memory: self,
             sample: y0,
         }
@@ -217,7 +220,7 @@ struct Tuning {
     quality: f64,
 }
 
-// f0 is held from 0 to the highest that its kind is stable at.
+// f0 is held from 0 to the highest that the Rust lets its kind have, for stability.
 fn tuned(frequency: f64, quality: f64, w: f64, highest: f64) -> Tuning
     ensures { λ r. ⌜ r ≡ tunedTo frequency quality w highest ⌝ }
 {
@@ -280,7 +283,7 @@ fn all_pass(t: Tuning) -> Coefficients
     with_poles(1.0 - t.alpha, -2.0 * t.cos, 1.0 + t.alpha, t)
 }
 
-// What a window steps by.
+// What each sample of a window steps by.
 pub enum FilterMachine {
     OnePole(OnePole),
     Biquad(Coefficients),

@@ -1,4 +1,5 @@
-// Oscillators: five waveforms, and a phase that moves on by one step per sample.
+// Oscillators: five waveforms, and a phase that moves on by one step per sample. Port of oscillator.rs.
+// Rests on the small functions of f64 and the sine of turns, of `numbers`.
 use crate::parameter::Parameter;
 use numbers::small::absolute;
 use numbers::small::fract;
@@ -57,6 +58,7 @@ pub struct Oscillated {
 }
 
 impl Modulation {
+    // How such an oscillator runs.
     pub fn driven(self) -> Driven
         ensures { λ r. ⌜ r ≡ drivenBy self ⌝ }
     {

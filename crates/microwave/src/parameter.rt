@@ -1,4 +1,4 @@
-// A stage's parameter, and the number that stands for it in a window.
+// A stage's parameter, and the number that stands for it in a window: what the Rust has automation traits for. Rests on nothing.
 ghost use mathlib.Core.Path.{_≡_};
 ghost use mathlib.Core.Bool.{cond};
 ghost use Rattle.microwave.specs.Parameter.{looked, required as requiredAsk, orZero, askList, allFound, paddedOf, numberFor, numbersOf};
@@ -57,7 +57,7 @@ pub struct Numbers {
     pub third: f64,
 }
 
-// Asks that are padded to three.
+// As many asks as any stage has: 0.0 answers those that are not there.
 struct AllThree {
     first: Ask,
     second: Ask,
@@ -84,7 +84,6 @@ pub fn or_zero(parameter: Parameter) -> Ask
     }
 }
 
-// Where nothing is asked for, 0.0 answers.
 fn padded(asks: Asks) -> AllThree
     ensures { λ r. ⌜ r ≡ paddedOf (askList asks) ⌝ }
 {
@@ -130,7 +129,7 @@ pub fn missing(asks: Asks, values: &[f64], seconds: f64) -> usize
     0
 }
 
-// The number found, 0.0 where there is none.
+// The number found, 0.0 where there is none: check 6 has seen to it that there is one.
 fn number(ask: Ask, values: &[f64], seconds: f64) -> f64
     ensures { λ r. ⌜ r ≡ numberFor ask (now (values .entry)) seconds ⌝ }
 {
@@ -140,7 +139,7 @@ fn number(ask: Ask, values: &[f64], seconds: f64) -> f64
     x
 }
 
-// The numbers found, 0.0 where there is none.
+// The numbers found, in the order of the asks, 0.0 where there is none.
 pub fn numbers_found(asks: Asks, values: &[f64], seconds: f64) -> Numbers
     ensures { λ r. ⌜ r ≡ numbersOf (askList asks) (now (values .entry)) seconds ⌝ }
 {

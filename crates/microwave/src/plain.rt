@@ -1,10 +1,12 @@
-// The stages without memory: Pass, Pow3, Clip and RingModulator.
+// The stages without memory: Pass, Pow3, Clip and RingModulator. Port of their part of mod.rs.
+// Rests on the small functions of f64, of `numbers`.
 use numbers::small::absolute;
 use numbers::small::maximum;
 use numbers::small::minimum;
 ghost use mathlib.Core.Path.{_≡_};
 ghost use Rattle.microwave.specs.Plain.{clipLimit, shapedOf};
 
+// Such a stage for a window. Clip has its limit, which `clip_limit` works out.
 pub enum Shape {
     Pass,
     Pow3,
@@ -12,7 +14,7 @@ pub enum Shape {
     RingModulator,
 }
 
-// The limit that a window's Clip holds its samples to.
+// The limit of a window's Clip, from its parameter's number.
 pub fn clip_limit(limit: f64) -> f64
     ensures { λ r. ⌜ r ≡ clipLimit limit ⌝ }
 {

@@ -1,4 +1,5 @@
-// The waveguide, a comb that is tuned to a string's length. Port of waveguide.rs.
+// The waveguide, a comb that is tuned to a string's length: what a window works out once, and one step per sample. Port of waveguide.rs.
+// Rests on the comb of `util`.
 use crate::parameter::Parameter;
 use numbers::small::held;
 use util::comb_filter::TunedComb;
@@ -12,7 +13,7 @@ ghost use mathlib.Core.Path.{_≡_};
 ghost use Prim.Native.Nat.{_+_};
 ghost use Rattle.util.specs.DelayLine.{delayAt};
 ghost use Rattle.util.specs.Interaction.{step};
-ghost use Rattle.microwave.specs.Waveguide.{feedbackFactor, lengthFactor, guideOf, strung, InRing, tunedTo, stringStep};
+ghost use Rattle.microwave.specs.Waveguide.{feedbackFactor, lengthFactor, guideOf, strung, InRing, combOf, stringStep};
 
 pub enum Reflectance {
     Positive,
@@ -106,7 +107,7 @@ pub fn guide_of(
 impl Guide {
     // The comb as a string's memory has it.
     fn comb(self, memory: StringMemory) -> TunedComb
-        ensures { λ r. ⌜ r ≡ tunedTo self memory ⌝ }
+        ensures { λ r. ⌜ r ≡ combOf self memory ⌝ }
     {
         let first = OnePoleLowPass {
             damping: self.damping,

@@ -1,5 +1,5 @@
-// One loop per kind over a window: each sample is read, worked by the kind's machine and mixed into the output.
-// These run once the checks have passed: they ask for the places that the checks have looked at.
+// One loop per sort of machine over a window: each sample is read, worked by the machine and mixed into the output.
+// Rests on `fetch` and `mix` of magnetron. The loops run once the checks have passed: they ask for the places that the checks have looked at.
 use crate::filter::Biquad;
 use crate::filter::Coefficients;
 use crate::filter::OnePole;

@@ -16,10 +16,10 @@ enum-told : tie.Need-enum-told
 enum-told c = search needs
 
 returns : tie.Need-returns
-returns c = ap (λ (f : Found). reported f .value) (sym ((c .enum-told .given .1)) ∙ (c .before .before .lookup .ensures))
+returns c = ap (λ (f : Found). reported f .value) (sym (c .enum-told .given .1) ∙ (c .before .before .lookup .ensures))
 
 returns-2 : tie.Need-returns-2
-returns-2 c = ap (λ (f : Found). reported f .value) (sym ((c .before .x .given .1)) ∙ (c .before .before .before .lookup .ensures))
+returns-2 c = ap (λ (f : Found). reported f .value) (sym (c .before .x .given .1) ∙ (c .before .before .before .lookup .ensures))
 
 pub number-spec : {M : Type 1} → statement M
 number-spec = tie.close (tie.spec lookup-requires enum-known-x enum-told returns returns-2)

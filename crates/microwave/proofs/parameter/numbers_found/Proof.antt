@@ -18,7 +18,7 @@ number-requires-3 c κs = search needs
 
 returns : tie.Need-returns
 unfolding numbersOf
-returns c = simp ((c .before .before .number .ensures), (c .before .number2 .ensures), (c .number3 .ensures), (c .before .before .before .padded .ensures))
+returns c = simp (c .before .before .number .ensures, c .before .number2 .ensures, c .number3 .ensures, c .before .before .before .padded .ensures)
 
 pub numbers-found-spec : {M : Type 1} → statement M
 numbers-found-spec =

@@ -27,7 +27,10 @@ delay-over-requires c κs = search needs
 
 returns : tie.Need-returns
 unfolding guideOf
-returns c = simp ((c .delay-over .ensures), (c .before .held .ensures), (c .before .before .nearest-u64-to-f64 .ensures), (c .before .before .before .delay-samples .ensures), (c .before .before .before .before .length-factor .ensures), (c .before .before .before .before .before .feedback-factor .ensures), (c .before .before .before .before .before .before .new .ensures))
+returns c =
+    let s = c .before .before .before in
+    simp
+    (c .delay-over .ensures, c .before .held .ensures, c .before .before .nearest-u64-to-f64 .ensures, s .delay-samples .ensures, s .before .length-factor .ensures, s .before .before .feedback-factor .ensures, s .before .before .before .new .ensures)
 
 pub guide-of-spec : {M : Type 1} → statement M
 guide-of-spec =

@@ -4,7 +4,7 @@ use Prim.Native.Nat.{_-_}
 use native.Mathlib.Omega.{arith}
 use borrow.Author.Needs.{needs}
 use Rattle.microwave.specs.Filter.{biquadNext, biquadOut}
-use Rattle.microwave.specs.declared.filter.Stepped.{Stepped}
+use Rattle.microwave.specs.declared.filter.BiquadStepped.{BiquadStepped}
 use Rattle.microwave.proofs.Turns.{Turned, turned-start, turned-reach, turned-room, turned-more, turned-end}
 use Rattle.microwave.proofs.window.biquad_loop.Statement.{statement}
 use Rattle.microwave.proofs.window.biquad_loop.Tie as tie
@@ -40,7 +40,7 @@ loop-again c =
     let s = c .before .before .before .before .before in
     let t = s .before .before .before in
     turned-more (t .before .before .loop .inv) (t .if1 .taken) (s .before .fetch .ensures)
-    (ap (λ (r : Stepped). r .memory) (s .step .ensures)) (ap (λ (r : Stepped). r .sample) (s .step .ensures))
+    (ap (λ (r : BiquadStepped). r .memory) (s .step .ensures)) (ap (λ (r : BiquadStepped). r .sample) (s .step .ensures))
     (c .before .before .write-sample .ensures)
 
 same-length : tie.Need-same-length Inv-loop μ-loop

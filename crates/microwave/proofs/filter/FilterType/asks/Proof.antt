@@ -46,25 +46,25 @@ biquad-asks-requires-5 : tie.Need-biquad-asks-requires-5
 biquad-asks-requires-5 c κs = search needs
 
 returns : tie.Need-returns
-returns c = simp ((c .before .before .self .given .1), (c .required .ensures))
+returns c = simp (c .before .before .self .given .1, c .required .ensures)
 
 returns-2 : tie.Need-returns-2
-returns-2 c = simp ((c .before .before .self2 .given .1), (c .biquad-asks .ensures))
+returns-2 c = simp (c .before .before .self2 .given .1, c .biquad-asks .ensures)
 
 returns-3 : tie.Need-returns-3
-returns-3 c = simp ((c .before .before .self3 .given .1), (c .required2 .ensures))
+returns-3 c = simp (c .before .before .self3 .given .1, c .required2 .ensures)
 
 returns-4 : tie.Need-returns-4
-returns-4 c = simp ((c .before .before .self4 .given .1), (c .biquad-asks2 .ensures))
+returns-4 c = simp (c .before .before .self4 .given .1, c .biquad-asks2 .ensures)
 
 returns-5 : tie.Need-returns-5
-returns-5 c = simp ((c .before .before .self5 .given .1), (c .biquad-asks3 .ensures))
+returns-5 c = simp (c .before .before .self5 .given .1, c .biquad-asks3 .ensures)
 
 returns-6 : tie.Need-returns-6
-returns-6 c = simp ((c .before .before .self6 .given .1), (c .biquad-asks4 .ensures))
+returns-6 c = simp (c .before .before .self6 .given .1, c .biquad-asks4 .ensures)
 
 returns-7 : tie.Need-returns-7
-returns-7 c = simp ((c .before .before .self7 .given .1), (c .biquad-asks5 .ensures))
+returns-7 c = simp (c .before .before .self7 .given .1, c .biquad-asks5 .ensures)
 
 pub asks-spec : {M : Type 1} → statement M
 asks-spec =

@@ -12,7 +12,9 @@ comb-requires : tie.Need-comb-requires
 comb-requires c κs = search needs
 
 process-sample-at-requires : tie.Need-process-sample-at-requires
-process-sample-at-requires c κs = (rw (c .before .comb .ensures) ((c .before .before .before .pre .position)), (c .before .before .before .pre .short), (c .before .before .before .pre .delay))
+process-sample-at-requires c κs =
+    let s = c .before .before .before in
+    (rw (c .before .comb .ensures) (s .pre .position), s .pre .short, s .pre .delay)
 
 same-length : tie.Need-same-length
 same-length c = search needs
@@ -20,8 +22,9 @@ same-length c = search needs
 returns : tie.Need-returns
 unfolding stringStep
 returns c =
-    let a = (c .before .before .before .before .before .before .before .args) in
-    ap (over leftBy) ((c .before .before .before .process-sample-at .ensures) ∙ ap (λ (d : TunedComb). tunedStep (a .k .delay) d (a .ring .now) (a .input)) (c .before .before .before .before .before .comb .ensures))
+    let p = c .before .before .before in
+    let a = p .before .before .before .before .args in
+    ap (over leftBy) (p .process-sample-at .ensures ∙ ap (λ (d : TunedComb). tunedStep (a .k .delay) d (a .ring .now) (a .input)) (p .before .before .comb .ensures))
 
 pub step-spec : {M : Type 1} → statement M
 step-spec = tie.close (tie.spec comb-requires process-sample-at-requires same-length returns)
