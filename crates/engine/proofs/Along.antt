@@ -1,14 +1,13 @@
 -- The loop along the order, once the checks have passed. What the checks established of the order holds of the rest of it after each step
 -- of the definition, so the loop repeats no check.
---     Here            a stage whose turn it is: it is there, its ring lies in the rings, and it is ready
+--     stage-there, ring-lies, ready     a stage whose turn it is: it is there, its ring lies in the rings, and it is ready
 --     passed-step     after its step the rest of the order has passed
 --     stepped         what its turn leaves is a step of the definition
 --     Along           the invariant: the rest has passed, and leads where the whole order does
 -- Assumes nothing.
 use mathlib.Core.Path.{_≡_, refl, sym, ap, ap₂, subst, _∙_}
-use mathlib.Core.Bool.{Bool, true}
+use mathlib.Core.Bool.{true}
 use mathlib.Core.List.{List, [], _∷_}
-use mathlib.Core.Option.{Option}
 use Prim.Native.Nat.{ℕ, zero, suc, _+_, _-_, _<_, _≤_}
 use native.Mathlib.Nat.{le-trans}
 use native.Mathlib.Omega.{arith}
@@ -19,7 +18,7 @@ use lib.Ieee.{Float}
 use borrow.Author.Tests.{ltb-true}
 use borrow.Rule.Slice.PartMut.{putMid}
 use Rattle.order.specs.Order.{runs}
-use Rattle.order.specs.Checks.{first, passed, verdict}
+use Rattle.order.specs.Checks.{passed, verdict}
 use Rattle.magnetron.specs.Activity.{greaterOf}
 use Rattle.magnetron.specs.Buffers.{pick, Shape, Banks, write, withLineAt, withLine, laid, marksOf, cleared, activityOf}
 use Rattle.magnetron.specs.Pools.{banksOf}
@@ -27,15 +26,14 @@ use Rattle.magnetron.specs.Room.{Held}
 use Rattle.magnetron.specs.declared.buffer.Marks.{Marks}
 use Rattle.magnetron.specs.declared.buffer.BufferIndex.{BufferIndex}
 use Rattle.magnetron.specs.declared.buffer.BufferIndex.the-variants.{External, Internal}
-use Rattle.magnetron.specs.declared.check.Verdict.{Verdict}
 use Rattle.magnetron.specs.declared.pool.Pools.{Pools}
 use Rattle.magnetron.specs.declared.stage.StageActivity.{StageActivity}
 use Rattle.magnetron.specs.declared.stage.StageActivity.the-variants.{Exhausted}
 use Rattle.magnetron.proofs.Tests.{and-left, and-right}
 use Rattle.magnetron.proofs.Verdicts.{first-passed}
 use Rattle.engine.specs.declared.state.State.{State}
-use Rattle.engine.specs.Stage.{Own, own, ringLen, ringFine}
-use Rattle.engine.specs.Run.{Plan, World, noState, stageAt, outsAt, lenIn, ringAt, worldOf, ownOf, playedAt, putPlayed, step, louder, allBelow, fineIn, fault, turned, faultOf}
+use Rattle.engine.specs.Stage.{Own, own, ringFine}
+use Rattle.engine.specs.Run.{Plan, World, noState, stageAt, lenIn, ringAt, worldOf, ownOf, playedAt, putPlayed, step, louder, fineIn, fault, turned, faultOf}
 use Rattle.engine.specs.Code.{Entered, Passed, Ready, Turned, Bounded}
 use Rattle.engine.proofs.Lists.{next-of, rest, last}
 use Rattle.engine.proofs.EndToEnd.{fine-at, sum-step, part-put}
@@ -182,6 +180,9 @@ module _ {P : Plan} {ks : List ℕ} {w₀ : World} where
   module _ {w : World} {a : StageActivity} {j : ℕ} (v : Along P ks w₀ w a j) where
     pub along-here : j < length ks → Passed P (getD ks j 0 ∷ drop (j + 1) ks) w
     along-here h = subst (λ (l : List ℕ). Passed P l w) (next-of ks j h) (v .still)
+
+    pub stage-below : j < length ks → getD ks j 0 < 32
+    stage-below h = omega (arith, stage-there (along-here h), v .still .entered .few)
 
     pub along-more : (w' : World) (a' : StageActivity) → j < length ks → w' ≡ step P (getD ks j 0) w → a' ≡ greaterOf a (activityOf (stageAt P (getD ks j 0) .output)) → Along P ks w₀ w' a' (j + 1)
     unfolding step putPlayed louder

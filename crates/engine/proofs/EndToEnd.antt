@@ -1,9 +1,10 @@
 -- Rings end to end: what check 4 tells of one stage, tests of the first n stages, and where a ring ends.
 --     no-ring                  a stage that is no waveguide
 --     fine-at                  a ring that check 4 lets pass keeps its bound
---     all-none, all-more, all-at, all-fails
+--     all-none, all-more, all-at, all-fails     a test of the first n stages
 --     sum-step                 a ring ends where the next one begins, or before
---     Summed, summed-start, summed-more     a loop that adds up the rings' lengths
+--     Summed, summed-start, summed-more, set-more, rings-fit     loops that add up the rings' lengths
+--     part-put                 a part that was lent comes back in its place
 -- Assumes nothing.
 use mathlib.Core.Path.{_≡_, refl, sym, ap, ap₂, _∙_}
 use mathlib.Core.Logic.{⊎-elim}
@@ -123,7 +124,6 @@ rings-fit patch states room k end s e h =
     let q : k ≡ patch .count = le-antisymm (s .upto) h in
     rw (sym q, e, s .sum) refl
 
--- a part that was lent comes back in its place
 pub part-put : (l v : List Float) (a e : ℕ) → a ≤ e → e ≤ length l → length v ≡ e - a → putMid a (e - a) l v ≡ sets l a v
 part-put l v a e h g q =
     let long : e ≡ a + length v = omega arith in

@@ -1,6 +1,6 @@
 -- The two ends of a run: refused, and done.
 -- Assumes nothing.
-use mathlib.Core.Path.{_≡_, refl, sym, ap, ap₂, _∙_}
+use mathlib.Core.Path.{_≡_, refl, sym, ap}
 use mathlib.Core.Logic.{_≢_}
 use mathlib.Core.Bool.{true, false≢true}
 use mathlib.Core.List.{List}
@@ -10,7 +10,6 @@ use lib.Ieee.{Float}
 use Rattle.order.specs.Order.{runs}
 use Rattle.order.specs.Checks.{passed}
 use Rattle.magnetron.specs.declared.check.Verdict.{Verdict}
-use Rattle.magnetron.specs.declared.stage.StageActivity.{StageActivity}
 use Rattle.magnetron.specs.declared.stage.StageActivity.the-variants.{Exhausted}
 use Rattle.engine.specs.Run.{Plan, World, refused, done, step, louder, judged, ended, rendered, leftBy}
 use Rattle.engine.specs.Code.{returned}

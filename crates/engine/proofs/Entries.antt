@@ -15,14 +15,14 @@ use lib.ListN.{length}
 use lib.Ieee.{Float}
 use borrow.Author.Tests.{lt-leb, le-leb, leb-true}
 use Rattle.order.specs.Checks.{unless, first, passed}
-use Rattle.magnetron.specs.Checks.{shapeOk, windowOk, verdictOf}
+use Rattle.magnetron.specs.Checks.{windowOk, verdictOf}
 use Rattle.magnetron.specs.Single.{Lent, lent, lentOk, prepareFault}
 use Rattle.magnetron.specs.declared.check.Verdict.{Verdict}
 use Rattle.magnetron.proofs.Tests.{and-left, and-right}
 use Rattle.magnetron.proofs.Verdicts.{unless-passed, first-passed, Numbered, numbered-unless, numbered-first, stopped, went-on}
 use Rattle.magnetron.proofs.Faults.{prepare-numbered}
 use Rattle.magnetron.proofs.Told.{held}
-use Rattle.engine.specs.Run.{Plan, World, orderly, allTo, fineIn, ringAt, ringsOk, entry}
+use Rattle.engine.specs.Run.{Plan, World, orderly, allTo, fineIn, ringsOk, entry}
 use Rattle.engine.specs.Code.{Entered}
 use Rattle.engine.proofs.Lists.{orderly-told}
 use Rattle.engine.proofs.EndToEnd.{all-at}

@@ -1,4 +1,5 @@
--- What several proofs of `engine` cite.
+-- What several proofs of `engine` cite, by what a run does: its checks (Lists to Judged), a stage's turn (Lens to Positions), the order (Along), its answer (Ends).
+-- `Determined` says that each public contract determines its outcome.
 pub mod Lists
 pub mod EndToEnd
 pub mod Faults

@@ -42,12 +42,11 @@ use Rattle.microwave.proofs.Strings.{guide-fits}
 use Rattle.engine.specs.declared.stage.Kind.{Kind}
 use Rattle.engine.specs.declared.stage.Kind.the-variants.{Pass, Pow3, Clip, Filter, Oscillator, ModOscillator, Waveguide, RingModulator}
 use Rattle.engine.specs.declared.stage.Stage.{Stage}
-use Rattle.engine.specs.declared.state.State.{State}
 use Rattle.engine.specs.declared.machine.RenderWindow.{RenderWindow}
 use Rattle.engine.specs.declared.machine.Machine.{Machine}
 use Rattle.engine.specs.declared.machine.Sources.{Sources}
 use Rattle.engine.specs.Stage.{inputsOf, asksOf, Own, own as owned, ringLen, ringFine, filterMachine, settled, entered, nextOf, outOf}
-use Rattle.engine.specs.Run.{hears, levelAsk, faultOf}
+use Rattle.engine.specs.Run.{hears, levelAsk}
 use Rattle.engine.specs.Code.{hearing, Strings, Playable, Stepped, Placed, sourcesOf, Ready, Turned}
 use Rattle.engine.proofs.Faults.{Sound, sound}
 

@@ -1,17 +1,18 @@
--- A RUN, as document 01 has it: demand 2's definition. What `run` answers and leaves is `runOf`, for any input.
+-- A RUN, as document 01 has it: demand 2's definition. What `run` answers and leaves is `runOf`, for any input: all checks, then the stages along the order.
+-- What each kind of stage is, `Stage.antt` says. What it is to read and to write a buffer, the crate `magnetron` says.
 -- Definitions only. Assumes nothing.
 --
 -- 01's sentences, and where they are said:
---     "Rings lie end to end in stage-number order in one lent slice."            ringAt
---     "Reading gives the first n samples .., or n zeros where it is stale"       heard, of magnetron; hears
---     "Each value is first multiplied by out_level, 1.0 if absent."              levelAsk; levelled, of magnetron; along
---     "Writing stores on a stale buffer .., and adds .. on any other"            write, of magnetron; step
---     1 to 4                                                                     entry
---     5, 6, 7, "for each stage along the order"                                  faultOf, fault
+--     "Rings lie end to end in stage-number order in one lent slice."                       ringAt, ownOf
+--     1 to 4                                                                                entry
+--     5, 6, 7, "for each stage along the order"                                             faultOf, fault
 --     "For 7, a buffer is not stale if it wasn't on entry or an earlier stage of this order writes it."    turned
---     "All of it precedes the first sample."                                     judged, rendered
---     "A refusal returns its number, the stage (32 for 1 to 4) and Exhausted; every record and lent slice is unchanged."    leftBy
---     "a run's [activity] is the greatest, Exhausted if empty"                   louder, ended
+--     "All of it precedes the first sample."                                                judged, rendered
+--     "A refusal returns its number, the stage (32 for 1 to 4) and Exhausted; every record and lent slice is unchanged."    judged, leftBy
+--     "Reading gives the first n samples of a buffer, or n zeros where it is stale"         heard, of magnetron; played
+--     "Writing stores on a stale buffer .., and adds .. on any other; then the mark is cleared"    write, of magnetron; putPlayed
+--     "Each value is first multiplied by out_level, 1.0 if absent."                         levelAsk; levelled, of magnetron; along
+--     "Activity is that of the output's kind; a run's is the greatest, Exhausted if empty." louder, ended
 use mathlib.Core.Bool.{Bool, true, false, not, _&&_, _||_}
 use mathlib.Core.List.{List, [], _∷_, _++_, map}
 use mathlib.Core.Option.{Option, none, some}
@@ -26,7 +27,7 @@ use Rattle.order.specs.Order.{runs}
 use Rattle.order.specs.Checks.{unless, first, verdict}
 use Rattle.magnetron.specs.Window.{tab, stateAt, machine}
 use Rattle.magnetron.specs.Activity.{greaterOf}
-use Rattle.magnetron.specs.Buffers.{Shape, Banks, lineAt, heard, write, pairs, cleared, marksOf, activityOf, meets}
+use Rattle.magnetron.specs.Buffers.{Shape, Banks, lineAt, heard, write, pairs, cleared, marksOf, activityOf}
 use Rattle.magnetron.specs.Pools.{shapeOf, banksOf, marksIn, remarked}
 use Rattle.magnetron.specs.Checks.{shapeOk, windowOk, allThere, noClash}
 use Rattle.magnetron.specs.Single.{levelled}
@@ -37,13 +38,10 @@ use Rattle.magnetron.specs.declared.buffer.BufferIndex.{BufferIndex}
 use Rattle.magnetron.specs.declared.buffer.BufferIndex.the-variants.{External}
 use Rattle.magnetron.specs.declared.check.Verdict.{Verdict}
 use Rattle.magnetron.specs.declared.pool.Pools.{Pools}
-use Rattle.magnetron.specs.declared.write.Answer.{Answer}
 use Rattle.microwave.specs.declared.parameter.Parameter.the-variants.{Fixed}
-use Rattle.microwave.specs.declared.parameter.Found.{Found}
 use Rattle.microwave.specs.declared.parameter.Found.the-variants.{Number}
 use Rattle.microwave.specs.declared.parameter.Ask.{Ask}
 use Rattle.microwave.specs.Parameter.{allFound, numberFor, numbersOf}
-use Rattle.engine.specs.declared.stage.Kind.{Kind}
 use Rattle.engine.specs.declared.stage.Kind.the-variants.{Pass}
 use Rattle.engine.specs.declared.stage.Stage.{Stage}
 use Rattle.engine.specs.declared.stage.Patch.{Patch}
@@ -69,6 +67,16 @@ pub record World : Type 0 where
   pub states : List State
   pub rings : List Float
 
+abbrev pub planOf : Patch → Pools → RenderWindow → List Float → Plan
+planOf patch pools window values = record { patch = patch; pools = pools; window = window; values = values }
+
+abbrev pub worldOf : Marks → List State → List Float → List Float → List Float → World
+worldOf m states internal external rings = record { banks = banksOf internal external m; states = states; rings = rings }
+
+-- "the window's seconds (sample width w times n)"
+abbrev pub windowOf : ℕ → Float → RenderWindow
+windowOf n width = record { «buffer_len» = n; «sample_width_secs» = width; «render_window_secs» = mul binary64 width (ofInt binary64 (pos n)) }
+
 -- what stands past the end of a list of stages or states; no check lets a run get there
 abbrev pub noStage : Stage
 noStage = record { kind = Pass (External 0); output = External 0; «out_level» = Fixed nan }
@@ -87,18 +95,16 @@ stageIn patch k = getD (patch .stages) k noStage
 abbrev pub stageAt : Plan → ℕ → Stage
 stageAt P k = stageIn (P .patch) k
 
--- the buffers that stage k reads, and those that it writes
+-- the buffers that stage k reads, and those that it writes: its one output
 abbrev pub insAt : Plan → ℕ → List BufferIndex
 insAt P k = inputsOf (stageAt P k .kind)
 
 abbrev pub outsAt : Plan → ℕ → List BufferIndex
 outsAt P k = stageAt P k .output ∷ []
 
-abbrev pub shapeIn : Plan → Shape
-shapeIn P = shapeOf (P .pools) (P .window .«buffer_len»)
-
 -- ---- "Rings lie end to end in stage-number order in one lent slice."
 
+-- the sum of the first n
 unfoldable pub sumTo : ℕ → (ℕ → ℕ) → ℕ
 sumTo zero f = 0
 sumTo (suc n) f = sumTo n f + f n
@@ -110,62 +116,9 @@ lenIn patch k = ringLen (stageIn patch k .kind)
 abbrev pub ringAt : Patch → ℕ → ℕ
 ringAt patch k = sumTo k (lenIn patch)
 
-unfoldable pub ownOf : Plan → ℕ → World → Own
-ownOf P k w = own (getD (w .states) k noState) (take (lenIn (P .patch) k) (drop (ringAt (P .patch) k) (w .rings)))
-
--- ---- a stage over a window
-
--- sample i of what is heard of each input
-abbrev pub hears : List (List Float) → ℕ → Hears
-hears [] i = record { first = zero64; second = zero64 }
-hears (a ∷ []) i = record { first = getD a i nan; second = zero64 }
-hears (a ∷ b ∷ rest) i = record { first = getD a i nan; second = getD b i nan }
-
--- out_level, 1.0 if absent
-abbrev pub levelAsk : Stage → Ask
-levelAsk t = record { parameter = t .«out_level»; absent = Number one64 }
-
--- what a stage keeps, and the samples that it writes to each of its outputs
-pub record Played : Type 0 where
-  pub kept : Own
-  pub outs : List (List Float)
-
--- a machine along n samples of its inputs; what it answers is multiplied by the level
-abbrev pub along : Machine → ℕ → Float → Own → List (List Float) → Played
-along m n level o ins = record {
-  kept = stateAt (nextOf m) o (hears ins) n;
-  outs = levelled level (tab n (machine (nextOf m) (outOf m) o (hears ins))) ∷ [];
-}
-
--- a stage that has `o` to itself, where the pools are as `b` says: the start of the window, then its machine
-abbrev pub played : Pools → RenderWindow → List Float → Stage → Own → Banks → Played
-played p w values t o b =
-    let q = numbersOf (asksOf (t .kind)) values (w .«render_window_secs») in
-    along (settled (t .kind) q w (o .state)) (w .«buffer_len») (numberFor (levelAsk t) values (w .«render_window_secs»))
-    (own (entered (t .kind) q (o .state)) (o .ring))
-    (map (λ (a : BufferIndex). heard (w .«buffer_len») (lineAt (shapeOf p (w .«buffer_len»)) a b)) (inputsOf (t .kind)))
-
--- ONE STAGE of a run: its outputs are written, and what it keeps is put back
-unfoldable pub putPlayed : Plan → ℕ → Played → World → World
-putPlayed P k a w = record {
-  banks = runs (write (shapeIn P)) (pairs (outsAt P k) (a .outs)) (w .banks);
-  states = set (w .states) k (a .kept .state);
-  rings = sets (w .rings) (ringAt (P .patch) k) (take (lenIn (P .patch) k) (a .kept .ring));
-}
-
-abbrev pub playedAt : Plan → ℕ → World → Played
-playedAt P k w = played (P .pools) (P .window) (P .values) (stageAt P k) (ownOf P k w) (w .banks)
-
-unfoldable pub step : Plan → ℕ → World → World
-step P k w = putPlayed P k (playedAt P k w) w
-
--- the greatest activity of the outputs
-unfoldable pub louder : Plan → ℕ → StageActivity → StageActivity
-louder P k a = runs (λ (b : BufferIndex) (c : StageActivity). greaterOf c (activityOf b)) (outsAt P k) a
-
 -- ---- the checks
 
--- 3: not "names a stage that isn't there, names one twice, or is longer than 32"
+-- not 3, "the order names a stage that isn't there, names one twice, or is longer than 32"
 abbrev pub allBelow : ℕ → List ℕ → Bool
 allBelow c [] = true
 allBelow c (k ∷ ks) = ltb k c && allBelow c ks
@@ -181,7 +134,8 @@ repeats (k ∷ ks) = holds k ks || repeats ks
 unfoldable pub orderly : ℕ → List ℕ → Bool
 orderly count ks = leb (length ks) 32 && (allBelow count ks && not (repeats ks))
 
--- 4: "looks at all waveguides of the patch, ordered or not"
+-- not 4, "a buffer_size is over its bound, the ring slice is shorter than all rings, or a stored position isn't below its ring length".
+-- "4 looks at all waveguides of the patch, ordered or not."
 unfoldable pub allTo : ℕ → (ℕ → Bool) → Bool
 allTo zero f = true
 allTo (suc n) f = allTo n f && f n
@@ -193,6 +147,8 @@ unfoldable pub ringsOk : Patch → List State → ℕ → Bool
 ringsOk patch states room = allTo (patch .count) (fineIn patch states) && leb (ringAt patch (patch .count)) room
 
 -- "Checks 1 to 4 come first, in that order"
+--     1   "a count of buffers or stages, or a capacity, is over its bound, a pool slice has another length, or the lent zeros aren't exactly one +0.0 per sample of the internal capacity"
+--     2   "the window is longer than the internal capacity, or than the external one where there are external buffers"
 unfoldable pub entry : Plan → List Float → List ℕ → World → Option ℕ
 entry P zeros ks w =
     first (unless (shapeOk (P .pools) (length (w .banks .internal .samples)) (length (w .banks .external .samples)) zeros && leb (P .patch .count) 32) 1)
@@ -200,12 +156,19 @@ entry P zeros ks w =
     (first (unless (orderly (P .patch .count) ks) 3)
     (unless (ringsOk (P .patch) (w .states) (length (w .rings))) 4)))
 
--- 5, 6, 7 of one stage at its turn, at these marks
+-- "out_level, 1.0 if absent"
+abbrev pub levelAsk : Stage → Ask
+levelAsk stage = record { parameter = stage .«out_level»; absent = Number one64 }
+
+-- "Then 5, 6, 7 for each stage along the order.": of one stage, at the marks of its turn
+--     5   "a stage names a buffer that isn't there"
+--     6   "a parameter's slot is past the lent values, or a required parameter is absent"
+--     7   "the window isn't empty and a stage's output is also one of its inputs and is not stale at its turn"
 unfoldable pub faultOf : Pools → RenderWindow → List Float → Stage → Marks → Option ℕ
-faultOf p w values t m =
-    first (unless (allThere p (inputsOf (t .kind) ++ (t .output ∷ []))) 5)
-    (first (unless (allFound (levelAsk t ∷ asksOf (t .kind)) values (w .«render_window_secs»)) 6)
-    (unless (noClash (w .«buffer_len») (inputsOf (t .kind)) (t .output ∷ []) m) 7))
+faultOf pools window values stage m =
+    first (unless (allThere pools (inputsOf (stage .kind) ++ (stage .output ∷ []))) 5)
+    (first (unless (allFound (levelAsk stage ∷ asksOf (stage .kind)) values (window .«render_window_secs»)) 6)
+    (unless (noClash (window .«buffer_len») (inputsOf (stage .kind)) (stage .output ∷ []) m) 7))
 
 -- a refusal that names its stage
 abbrev pub named : ℕ → Option ℕ → Option Verdict
@@ -215,13 +178,67 @@ named k (some r) = some (record { number = r; stage = k })
 unfoldable pub fault : Plan → ℕ → Marks → Option Verdict
 fault P k m = named k (faultOf (P .pools) (P .window) (P .values) (stageAt P k) m)
 
--- the marks after its turn
+-- the marks after its turn: "a buffer is not stale if it wasn't on entry or an earlier stage of this order writes it"
 unfoldable pub turned : Plan → ℕ → Marks → Marks
 turned P k m = runs cleared (outsAt P k) m
 
--- all checks: none, or the first refusal
+-- all checks: none, or the first refusal, with "the stage (32 for 1 to 4)"
 unfoldable pub judged : Plan → List Float → List ℕ → World → Option Verdict
 judged P zeros ks w = first (named 32 (entry P zeros ks w)) (verdict (fault P) (turned P) ks (marksOf (w .banks)))
+
+-- ---- one stage over a window
+
+-- sample i of what is heard of each input
+abbrev pub hears : List (List Float) → ℕ → Hears
+hears [] i = record { first = zero64; second = zero64 }
+hears (a ∷ []) i = record { first = getD a i nan; second = zero64 }
+hears (a ∷ b ∷ rest) i = record { first = getD a i nan; second = getD b i nan }
+
+-- what a stage keeps, and the samples that it writes to each of its outputs
+pub record Played : Type 0 where
+  pub kept : Own
+  pub outs : List (List Float)
+
+-- a machine along n samples of its inputs; what it answers is multiplied by the level
+abbrev pub along : Machine → ℕ → Float → Own → List (List Float) → Played
+along m n level o ins = record {
+  kept = stateAt (nextOf m) o (hears ins) n;
+  outs = levelled level (tab n (machine (nextOf m) (outOf m) o (hears ins))) ∷ [];
+}
+
+-- a stage that has `o` to itself, where the pools are as `b` says: its parameters as numbers, the start of the window, then its machine
+abbrev pub played : Pools → RenderWindow → List Float → Stage → Own → Banks → Played
+played pools window values stage o b =
+    let q = numbersOf (asksOf (stage .kind)) values (window .«render_window_secs») in
+    along (settled (stage .kind) q window (o .state)) (window .«buffer_len») (numberFor (levelAsk stage) values (window .«render_window_secs»))
+    (own (entered (stage .kind) q (o .state)) (o .ring))
+    (map (λ (a : BufferIndex). heard (window .«buffer_len») (lineAt (shapeOf pools (window .«buffer_len»)) a b)) (inputsOf (stage .kind)))
+
+-- what stage k has to itself: its state record, and its part of the rings
+unfoldable pub ownOf : Plan → ℕ → World → Own
+ownOf P k w = own (getD (w .states) k noState) (take (lenIn (P .patch) k) (drop (ringAt (P .patch) k) (w .rings)))
+
+abbrev pub playedAt : Plan → ℕ → World → Played
+playedAt P k w = played (P .pools) (P .window) (P .values) (stageAt P k) (ownOf P k w) (w .banks)
+
+abbrev pub shapeIn : Plan → Shape
+shapeIn P = shapeOf (P .pools) (P .window .«buffer_len»)
+
+-- its outputs are written, and what it keeps is put back
+unfoldable pub putPlayed : Plan → ℕ → Played → World → World
+putPlayed P k a w = record {
+  banks = runs (write (shapeIn P)) (pairs (outsAt P k) (a .outs)) (w .banks);
+  states = set (w .states) k (a .kept .state);
+  rings = sets (w .rings) (ringAt (P .patch) k) (take (lenIn (P .patch) k) (a .kept .ring));
+}
+
+-- ONE STAGE of a run
+unfoldable pub step : Plan → ℕ → World → World
+step P k w = putPlayed P k (playedAt P k w) w
+
+-- an activity, or that of stage k where it is greater: "Activity is that of the output's kind"
+unfoldable pub louder : Plan → ℕ → StageActivity → StageActivity
+louder P k a = runs (λ (b : BufferIndex) (c : StageActivity). greaterOf c (activityOf b)) (outsAt P k) a
 
 -- ---- the run
 
@@ -229,16 +246,16 @@ pub data Rendered : Type 0 where
   refused : Verdict → Rendered
   done : StageActivity → World → Rendered
 
+-- refused as judged, or all stages in order; "a run's [activity] is the greatest, Exhausted if empty"
 unfoldable pub ended : Plan → List ℕ → World → Option Verdict → Rendered
 ended P ks w none = done (runs (louder P) ks Exhausted) (runs (step P) ks w)
 ended P ks w (some r) = refused r
 
--- refused before the first sample, or all stages in order
+-- "All of it precedes the first sample.": the verdict is of the world on entry
 unfoldable pub rendered : Plan → List Float → List ℕ → World → Rendered
 rendered P zeros ks w = ended P ks w (judged P zeros ks w)
 
--- ---- what `run` answers, with what it leaves in the lent slices
-
+-- what `run` answers, with what it leaves in the lent slices
 pub record Left : Type 0 where
   pub ran : Ran
   pub internal : List Float
@@ -248,7 +265,7 @@ pub record Left : Type 0 where
 abbrev pub left : Ran → List Float → List Float → List Float → Left
 left r internal external rings = record { ran = r; internal = internal; external = external; rings = rings }
 
--- a refusal changes nothing
+-- "A refusal returns its number, the stage .. and Exhausted; every record and lent slice is unchanged."; "0: done; stage 32"
 unfoldable pub leftBy : Plan → World → Rendered → Left
 leftBy P w (refused v) =
     left (record { answer = record { number = v .number; stage = v .stage; activity = Exhausted }; pools = P .pools; states = record { stages = w .states } })
@@ -257,19 +274,9 @@ leftBy P w (done a u) =
     left (record { answer = record { number = 0; stage = 32; activity = a }; pools = remarked (P .pools) (marksOf (u .banks)); states = record { stages = u .states } })
     (u .banks .internal .samples) (u .banks .external .samples) (u .rings)
 
--- "the window's seconds (sample width w times n)"
-abbrev pub windowOf : ℕ → Float → RenderWindow
-windowOf n width = record { «buffer_len» = n; «sample_width_secs» = width; «render_window_secs» = mul binary64 width (ofInt binary64 (pos n)) }
-
-abbrev pub planOf : Patch → Pools → RenderWindow → List Float → Plan
-planOf patch p w values = record { patch = patch; pools = p; window = w; values = values }
-
-abbrev pub worldOf : Marks → List State → List Float → List Float → List Float → World
-worldOf m states internal external rings = record { banks = banksOf internal external m; states = states; rings = rings }
-
 -- THE DEFINITION
 unfoldable pub runOf : Patch → List ℕ → Pools → States → ℕ → Float → List Float → List Float → List Float → List Float → List Float → Left
-runOf patch order p states n width internal external zeros rings values =
-    let P : Plan = planOf patch p (windowOf n width) values in
-    let w : World = worldOf (marksIn p) (states .stages) internal external rings in
+runOf patch order pools states n width internal external zeros rings values =
+    let P : Plan = planOf patch pools (windowOf n width) values in
+    let w : World = worldOf (marksIn pools) (states .stages) internal external rings in
     leftBy P w (rendered P zeros order w)

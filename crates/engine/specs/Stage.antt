@@ -98,7 +98,7 @@ ringLen (ModOscillator a o m) = 0
 ringLen (Waveguide a g) = g .«buffer_size» + 1
 ringLen (RingModulator a b) = 0
 
--- 4, of one stage: not "a buffer_size is over its bound", not "a stored position isn't below its ring length"
+-- not 4, of one stage: "a buffer_size is over its bound .. or a stored position isn't below its ring length"
 abbrev pub ringFine : Kind → State → Bool
 ringFine (Pass a) s = true
 ringFine (Pow3 a) s = true
@@ -109,34 +109,34 @@ ringFine (ModOscillator a o m) s = true
 ringFine (Waveguide a g) s = leb (g .«buffer_size») 32767 && ltb (s .waveguide .position) (g .«buffer_size» + 1)
 ringFine (RingModulator a b) s = true
 
--- ---- the start of a window: the numbers that its samples work with, and what the stage keeps then
+-- ---- the start of a window: the machine that its samples work with, and what the stage keeps then. `q` are the numbers that answered its asks
 
 abbrev pub filterMachine : FilterMachine → Machine
 filterMachine (filter.OnePole k) = machine.OnePole k
 filterMachine (filter.Biquad k) = machine.Biquad k
 
 abbrev pub oscillatorMachine : OscillatorSpec → Driven → Numbers → RenderWindow → State → Machine
-oscillatorMachine o d q w s =
+oscillatorMachine o d q window s =
     machine.Oscillator
     (record {
       «oscillator_type» = o .«oscillator_type»;
       driven = d;
-      «d_phase» = dPhaseOf (q .first) (q .second) (s .oscillator .saved) (w .«sample_width_secs») (w .«buffer_len»);
-      «sample_width» = w .«sample_width_secs»;
+      «d_phase» = dPhaseOf (q .first) (q .second) (s .oscillator .saved) (window .«sample_width_secs») (window .«buffer_len»);
+      «sample_width» = window .«sample_width_secs»;
     })
 
 abbrev pub waveguideMachine : WaveguideSpec → Numbers → RenderWindow → Machine
-waveguideMachine g q w = machine.Waveguide (guideOf (g .reflectance) (g .«buffer_size») (q .first) (q .second) (q .third) (w .«sample_width_secs»))
+waveguideMachine g q window = machine.Waveguide (guideOf (g .reflectance) (g .«buffer_size») (q .first) (q .second) (q .third) (window .«sample_width_secs»))
 
 abbrev pub settled : Kind → Numbers → RenderWindow → State → Machine
-settled (Pass a) q w s = machine.Plain shape.Pass
-settled (Pow3 a) q w s = machine.Plain shape.Pow3
-settled (Clip a limit) q w s = machine.Plain (shape.Clip (clipLimit (q .first)))
-settled (Filter a f) q w s = filterMachine (machineOf (withNumbers f (q .first) (q .second)) (w .«sample_width_secs»))
-settled (Oscillator o) q w s = oscillatorMachine o driven.Plain q w s
-settled (ModOscillator a o m) q w s = oscillatorMachine o (drivenBy m) q w s
-settled (Waveguide a g) q w s = waveguideMachine g q w
-settled (RingModulator a b) q w s = machine.Plain shape.RingModulator
+settled (Pass a) q window s = machine.Plain shape.Pass
+settled (Pow3 a) q window s = machine.Plain shape.Pow3
+settled (Clip a limit) q window s = machine.Plain (shape.Clip (clipLimit (q .first)))
+settled (Filter a f) q window s = filterMachine (machineOf (withNumbers f (q .first) (q .second)) (window .«sample_width_secs»))
+settled (Oscillator o) q window s = oscillatorMachine o driven.Plain q window s
+settled (ModOscillator a o m) q window s = oscillatorMachine o (drivenBy m) q window s
+settled (Waveguide a g) q window s = waveguideMachine g q window
+settled (RingModulator a b) q window s = machine.Plain shape.RingModulator
 
 abbrev pub withPhases : State → Phases → State
 withPhases s p = record { oscillator = p; «one_pole» = s .«one_pole»; biquad = s .biquad; waveguide = s .waveguide }

@@ -1,4 +1,5 @@
 // The checks of a run, all of them before the first sample: 1 to 4 of what is lent, then 5, 6, 7 of each stage along the order.
+// Rests on magnetron's checks of pools and buffers, and on microwave's look-up of parameters.
 use crate::machine::RenderWindow;
 use crate::run::Given;
 use crate::stage::Patch;

@@ -1,4 +1,4 @@
-// A stage for one window: its parameters as numbers, its coefficients, and its loop.
+// A stage for one window: its machine, from the numbers that its parameters gave, and the loop that plays it. Rests on the machines and loops of microwave.
 use crate::stage::Kind;
 use crate::state::State;
 use magnetron::input::Input;
@@ -46,64 +46,64 @@ pub enum Machine {
     Waveguide(Guide),
 }
 
-fn filter_machine(filter: FilterType, q: Numbers, w: RenderWindow) -> Machine
-    ensures { λ r. ⌜ r ≡ filterMachine (machineOf (withNumbers filter (q .first) (q .second)) (w .«sample_width_secs»)) ⌝ }
+fn filter_machine(filter: FilterType, numbers: Numbers, window: RenderWindow) -> Machine
+    ensures { λ r. ⌜ r ≡ filterMachine (machineOf (withNumbers filter (numbers .first) (numbers .second)) (window .«sample_width_secs»)) ⌝ }
 {
     let machine = filter
-        .with_numbers(q.first, q.second)
-        .coefficients(w.sample_width_secs);
+        .with_numbers(numbers.first, numbers.second)
+        .coefficients(window.sample_width_secs);
     match machine {
-        FilterMachine::OnePole(k) => Machine::OnePole(k),
-        FilterMachine::Biquad(k) => Machine::Biquad(k),
+        FilterMachine::OnePole(one_pole) => Machine::OnePole(one_pole),
+        FilterMachine::Biquad(coefficients) => Machine::Biquad(coefficients),
     }
 }
 
 fn oscillator_machine(
-    o: OscillatorSpec,
+    oscillator: OscillatorSpec,
     driven: Driven,
-    q: Numbers,
-    w: RenderWindow,
-    s: State,
+    numbers: Numbers,
+    window: RenderWindow,
+    state: State,
 ) -> Machine
-    ensures { λ r. ⌜ r ≡ oscillatorMachine o driven q w s ⌝ }
+    ensures { λ r. ⌜ r ≡ oscillatorMachine oscillator driven numbers window state ⌝ }
 {
-    let oscillator_type = o.oscillator_type;
+    let oscillator_type = oscillator.oscillator_type;
     let d_phase = microwave::oscillator::d_phase(
-        q.first,
-        q.second,
-        s.oscillator.saved,
-        w.sample_width_secs,
-        w.buffer_len,
+        numbers.first,
+        numbers.second,
+        state.oscillator.saved,
+        window.sample_width_secs,
+        window.buffer_len,
     );
     Machine::Oscillator(Oscillator {
         oscillator_type,
         driven,
         d_phase,
-        sample_width: w.sample_width_secs,
+        sample_width: window.sample_width_secs,
     })
 }
 
-fn waveguide_machine(g: WaveguideSpec, q: Numbers, w: RenderWindow) -> Machine
-    ensures { λ r. ⌜ r ≡ waveguideMachine g q w ⌝ }
+fn waveguide_machine(waveguide: WaveguideSpec, numbers: Numbers, window: RenderWindow) -> Machine
+    ensures { λ r. ⌜ r ≡ waveguideMachine waveguide numbers window ⌝ }
 {
-    let reflectance = g.reflectance;
+    let reflectance = waveguide.reflectance;
     Machine::Waveguide(microwave::waveguide::guide_of(
         reflectance,
-        g.buffer_size,
-        q.first,
-        q.second,
-        q.third,
-        w.sample_width_secs,
+        waveguide.buffer_size,
+        numbers.first,
+        numbers.second,
+        numbers.third,
+        window.sample_width_secs,
     ))
 }
 
 impl State {
     // The phase parameter of this window, remembered for the next.
-    fn saving(mut self, q: Numbers) -> State
-        ensures { λ r. ⌜ r ≡ saved q self ⌝ }
+    fn saving(mut self, numbers: Numbers) -> State
+        ensures { λ r. ⌜ r ≡ saved numbers self ⌝ }
     {
         let phases = self.oscillator;
-        let next = phases.enter(q.second);
+        let next = phases.enter(numbers.second);
         self.oscillator = next;
         self
     }
@@ -111,42 +111,42 @@ impl State {
 
 impl Kind {
     // The stage's machine for a window, from the numbers that its parameters gave.
-    pub(crate) fn settle(self, q: Numbers, w: RenderWindow, s: State) -> Machine
-        ensures { λ r. ⌜ r ≡ settled self q w s ⌝ }
+    pub(crate) fn settle(self, numbers: Numbers, window: RenderWindow, state: State) -> Machine
+        ensures { λ r. ⌜ r ≡ settled self numbers window state ⌝ }
     {
         match self {
             Kind::Pass { .. } => Machine::Plain(Shape::Pass),
             Kind::Pow3 { .. } => Machine::Plain(Shape::Pow3),
             Kind::Clip { .. } => Machine::Plain(Shape::Clip {
-                limit: microwave::plain::clip_limit(q.first),
+                limit: microwave::plain::clip_limit(numbers.first),
             }),
-            Kind::Filter { filter, .. } => filter_machine(filter, q, w),
+            Kind::Filter { filter, .. } => filter_machine(filter, numbers, window),
             Kind::Oscillator { oscillator } => {
-                oscillator_machine(oscillator, Driven::Plain, q, w, s)
+                oscillator_machine(oscillator, Driven::Plain, numbers, window, state)
             }
             Kind::ModOscillator {
                 oscillator,
                 modulation,
                 ..
-            } => oscillator_machine(oscillator, modulation.driven(), q, w, s),
-            Kind::Waveguide { waveguide, .. } => waveguide_machine(waveguide, q, w),
+            } => oscillator_machine(oscillator, modulation.driven(), numbers, window, state),
+            Kind::Waveguide { waveguide, .. } => waveguide_machine(waveguide, numbers, window),
             Kind::RingModulator { .. } => Machine::Plain(Shape::RingModulator),
         }
     }
 
     // What the stage keeps at the start of a window, an empty one too.
-    pub(crate) fn enter(self, q: Numbers, s: State) -> State
-        ensures { λ r. ⌜ r ≡ entered self q s ⌝ }
+    pub(crate) fn enter(self, numbers: Numbers, state: State) -> State
+        ensures { λ r. ⌜ r ≡ entered self numbers state ⌝ }
     {
         match self {
-            Kind::Pass { .. } => s,
-            Kind::Pow3 { .. } => s,
-            Kind::Clip { .. } => s,
-            Kind::Filter { .. } => s,
-            Kind::Oscillator { .. } => s.saving(q),
-            Kind::ModOscillator { .. } => s.saving(q),
-            Kind::Waveguide { .. } => s,
-            Kind::RingModulator { .. } => s,
+            Kind::Pass { .. } => state,
+            Kind::Pow3 { .. } => state,
+            Kind::Clip { .. } => state,
+            Kind::Filter { .. } => state,
+            Kind::Oscillator { .. } => state.saving(numbers),
+            Kind::ModOscillator { .. } => state.saving(numbers),
+            Kind::Waveguide { .. } => state,
+            Kind::RingModulator { .. } => state,
         }
     }
 }
@@ -169,31 +169,31 @@ impl Machine {
         let first = inputs.first;
         let second = inputs.second;
         match self {
-            Machine::Plain(k) => {
-                plain_window(k, own, other, first, second, target);
+            Machine::Plain(shape) => {
+                plain_window(shape, own, other, first, second, target);
                 return state;
             }
-            Machine::Oscillator(k) => {
+            Machine::Oscillator(oscillator) => {
                 let phases = state.oscillator;
-                let next = oscillator_window(k, phases, own, other, first, target);
+                let next = oscillator_window(oscillator, phases, own, other, first, target);
                 state.oscillator = next;
                 return state;
             }
-            Machine::OnePole(k) => {
+            Machine::OnePole(one_pole) => {
                 let memory = state.one_pole;
-                let next = one_pole_window(k, memory, own, other, first, target);
+                let next = one_pole_window(one_pole, memory, own, other, first, target);
                 state.one_pole = next;
                 return state;
             }
-            Machine::Biquad(k) => {
+            Machine::Biquad(coefficients) => {
                 let memory = state.biquad;
-                let next = biquad_window(k, memory, own, other, first, target);
+                let next = biquad_window(coefficients, memory, own, other, first, target);
                 state.biquad = next;
                 return state;
             }
-            Machine::Waveguide(k) => {
+            Machine::Waveguide(guide) => {
                 let memory = state.waveguide;
-                let next = string_window(k, memory, ring, own, other, first, target);
+                let next = string_window(guide, memory, ring, own, other, first, target);
                 state.waveguide = next;
                 return state;
             }

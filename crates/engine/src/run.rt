@@ -1,8 +1,9 @@
-// The run: all checks, then each stage of the order. Every input gets an answer, and a refusal changes nothing.
+// The run: all checks (check.rt), then each stage of the order (turn.rt). Every input gets an answer, and a refusal changes nothing.
 use crate::check::judge;
 use crate::machine::RenderWindow;
 use crate::stage::Patch;
 use crate::state::States;
+use crate::turn::Turn;
 use magnetron::check::Verdict;
 use magnetron::pool::Pools;
 use magnetron::stage::StageActivity;
@@ -14,6 +15,7 @@ ghost use Rattle.magnetron.specs.declared.stage.StageActivity.the-variants.{Exh
 ghost use Rattle.engine.specs.Run.{step, louder, done, left, leftBy, windowOf, runOf};
 ghost use Rattle.engine.specs.Code.{planIn, worldIn, Passed, refusedRan, doneRan};
 
+// What a run answers, with the records that it hands back.
 pub struct Ran {
     pub answer: Answer,
     pub pools: Pools,
@@ -100,16 +102,14 @@ fn run_order(
         let at = starts.at[k];
         let end = at + stage.ring_len();
         let ring = &mut rings[at..end];
-        let next = stage.turn(
+        let turn = Turn {
+            stage,
             state,
-            pools,
             marks,
+            pools,
             window,
-            values,
-            ring,
-            internal,
-            external,
-        );
+        };
+        let next = turn.take(values, ring, internal, external);
         states.stages[k] = next;
         let output = stage.output;
         marks = marks.written(output);
@@ -119,7 +119,7 @@ fn run_order(
     finished(activity, pools.with_marks(marks), states)
 }
 
-// A run of n samples, each `width` seconds wide: all checks, then each stage of the order. A refusal changes nothing.
+// A run of n samples, each `width` seconds wide. Answers 0, stage 32 and the greatest activity, or the first refusal.
 pub fn run(
     patch: Patch,
     order: &[u8],

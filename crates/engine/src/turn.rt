@@ -1,4 +1,5 @@
 // A stage's turn, once the checks have passed: it reads its inputs, plays its window and writes its output.
+// Rests on what the checks have established (`Ready`), and on the machines of machine.rt.
 use crate::machine::RenderWindow;
 use crate::machine::Sources;
 use crate::stage::Stage;
@@ -40,29 +41,33 @@ fn sources(inputs: Inputs, pools: Pools, marks: Marks, output: BufferIndex) -> S
     }
 }
 
-impl Stage {
+// A stage whose turn it is: what it remembers, the marks by then, and what holds for the whole run.
+pub(crate) struct Turn {
+    pub stage: Stage,
+    pub state: State,
+    pub marks: Marks,
+    pub pools: Pools,
+    pub window: RenderWindow,
+}
+
+impl Turn {
     // One window: `own` is the pool of the output, `ring` the stage's ring.
-    fn render(
-        self,
-        state: State,
-        pools: Pools,
-        marks: Marks,
-        window: RenderWindow,
-        values: &[f64],
-        ring: &mut [f64],
-        own: &mut [f64],
-        other: &[f64],
-    ) -> State
-        requires { ⌜ Ready pools window (now values) self marks (owned state (now ring)) (now own) (now other) ⌝ }
-        ensures { λ r. ⌜ Turned pools window (now (values .entry)) self
-            (owned state (now (ring .entry))) (sided (self .output) (now (own .entry)) (now (other .entry)) marks)
-            (owned r (now (ring .exit))) (sided (self .output) (now (own .exit)) (now (other .entry)) (cleared (self .output) marks)) ⌝ }
+    fn render(self, values: &[f64], ring: &mut [f64], own: &mut [f64], other: &[f64]) -> State
+        requires { ⌜ Ready (self .pools) (self .window) (now values) (self .stage) (self .marks) (owned (self .state) (now ring)) (now own) (now other) ⌝ }
+        ensures { λ r. ⌜ Turned (self .pools) (self .window) (now (values .entry)) (self .stage)
+            (owned (self .state) (now (ring .entry))) (sided (self .stage .output) (now (own .entry)) (now (other .entry)) (self .marks))
+            (owned r (now (ring .exit))) (sided (self .stage .output) (now (own .exit)) (now (other .entry)) (cleared (self .stage .output) (self .marks))) ⌝ }
     {
-        let kind = self.kind;
-        let output = self.output;
+        let stage = self.stage;
+        let state = self.state;
+        let marks = self.marks;
+        let pools = self.pools;
+        let window = self.window;
+        let kind = stage.kind;
+        let output = stage.output;
         let seconds = window.render_window_secs;
-        let level = numbers_found(Asks::One(self.level_ask()), values, seconds);
-        let q = numbers_found(kind.asks(), values, seconds);
+        let level = numbers_found(Asks::One(stage.level_ask()), values, seconds);
+        let numbers = numbers_found(kind.asks(), values, seconds);
         let target = Target {
             base: pools.base_of(output),
             samples: window.buffer_len,
@@ -70,53 +75,32 @@ impl Stage {
             level: level.first,
         };
         let inputs = sources(kind.inputs(), pools, marks, output);
-        let machine = kind.settle(q, window, state);
-        machine.play(kind.enter(q, state), ring, own, other, inputs, target)
+        let machine = kind.settle(numbers, window, state);
+        machine.play(kind.enter(numbers, state), ring, own, other, inputs, target)
     }
 
     // The output's kind picks the pool that is written.
-    pub(crate) fn turn(
+    pub(crate) fn take(
         self,
-        state: State,
-        pools: Pools,
-        marks: Marks,
-        window: RenderWindow,
         values: &[f64],
         ring: &mut [f64],
         internal: &mut [f64],
         external: &mut [f64],
     ) -> State
-        requires { ⌜ Ready pools window (now values) self marks (owned state (now ring))
-            (pick (self .output) (now internal) (now external)) (pick (self .output) (now external) (now internal)) ⌝ }
-        ensures { λ r. ⌜ Turned pools window (now (values .entry)) self
-            (owned state (now (ring .entry))) (banksOf (now (internal .entry)) (now (external .entry)) marks)
-            (owned r (now (ring .exit))) (banksOf (now (internal .exit)) (now (external .exit)) (cleared (self .output) marks)) ⌝ }
+        requires { ⌜ Ready (self .pools) (self .window) (now values) (self .stage) (self .marks) (owned (self .state) (now ring))
+            (pick (self .stage .output) (now internal) (now external)) (pick (self .stage .output) (now external) (now internal)) ⌝ }
+        ensures { λ r. ⌜ Turned (self .pools) (self .window) (now (values .entry)) (self .stage)
+            (owned (self .state) (now (ring .entry))) (banksOf (now (internal .entry)) (now (external .entry)) (self .marks))
+            (owned r (now (ring .exit))) (banksOf (now (internal .exit)) (now (external .exit)) (cleared (self .stage .output) (self .marks))) ⌝ }
     {
-        let output = self.output;
+        let stage = self.stage;
+        let output = stage.output;
         match output {
             BufferIndex::External(_) => {
-                return self.render(
-                    state,
-                    pools,
-                    marks,
-                    window,
-                    values,
-                    ring,
-                    external,
-                    internal,
-                );
+                return self.render(values, ring, external, internal);
             }
             BufferIndex::Internal(_) => {
-                return self.render(
-                    state,
-                    pools,
-                    marks,
-                    window,
-                    values,
-                    ring,
-                    internal,
-                    external,
-                );
+                return self.render(values, ring, internal, external);
             }
         }
     }

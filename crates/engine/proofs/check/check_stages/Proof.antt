@@ -1,5 +1,5 @@
 -- `engine::check::check_stages` meets its contract: the stages so far have passed, with the marks as they leave them. Assumes nothing.
-use mathlib.Core.Path.{_≡_, refl, ap}
+use mathlib.Core.Path.{_≡_, refl}
 use Prim.Native.Nat.{_-_}
 use native.Mathlib.Omega.{arith}
 use lib.ListN.{length, drop}
@@ -31,10 +31,14 @@ cast-k : tie.Need-cast-k Inv-loop μ-loop
 cast-k c = omega (arith, (c .shared-slice-known3 .given) (c .before .before .loop .j))
 
 mul-stage : tie.Need-mul-stage Inv-loop μ-loop
-mul-stage c = omega (arith, below-at ((c .before .before .before .before .before .before .args .t1 .count)) ((c .before .before .before .before .before .before .args .order .now)) (c .before .before .before .before .before .before .pre .1) (c .before .before .loop .j) (c .before .loop-test .taken), (c .before .before .before .before .before .before .pre .0))
+mul-stage c =
+    let s = c .before .before .before .before .before .before in
+    omega (arith, below-at (s .args .t1 .count) (s .args .order .now) (s .pre .1) (c .before .before .loop .j) (c .before .loop-test .taken), s .pre .0)
 
 element-copy-out-stage : tie.Need-element-copy-out-stage Inv-loop μ-loop
-element-copy-out-stage c = omega (arith, below-at ((c .before .before .before .before .before .before .args .t1 .count)) ((c .before .before .before .before .before .before .args .order .now)) (c .before .before .before .before .before .before .pre .1) (c .before .before .loop .j) (c .before .loop-test .taken), (c .before .before .before .before .before .before .pre .0))
+element-copy-out-stage c =
+    let s = c .before .before .before .before .before .before in
+    omega (arith, below-at (s .args .t1 .count) (s .args .order .now) (s .pre .1) (c .before .before .loop .j) (c .before .loop-test .taken), s .pre .0)
 
 stage-fault-requires : tie.Need-stage-fault-requires Inv-loop μ-loop
 stage-fault-requires c κs = search needs
@@ -58,7 +62,7 @@ done-requires : tie.Need-done-requires Inv-loop μ-loop
 done-requires c κs = search needs
 
 returns-2 : tie.Need-returns-2 Inv-loop μ-loop
-returns-2 c = rw ((c .done .ensures)) (stages-end _ _ _ _ (c .before .before .loop .inv) (c .before .loop-test .left))
+returns-2 c = rw (c .done .ensures) (stages-end _ _ _ _ (c .before .before .loop .inv) (c .before .loop-test .left))
 
 pub check-stages-spec : {M : Type 1} → statement M
 check-stages-spec =

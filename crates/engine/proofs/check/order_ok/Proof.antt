@@ -1,10 +1,10 @@
 -- `engine::check::order_ok` meets its contract: the length, then each number and its repeats. Assumes nothing.
-use mathlib.Core.Path.{_≡_, refl, ap, sym, _∙_}
+use mathlib.Core.Path.{_≡_, refl, sym, _∙_}
 use Prim.Native.Nat.{_-_}
 use native.Mathlib.Omega.{arith}
 use lib.ListN.{length, drop}
 use borrow.Author.Needs.{needs}
-use borrow.Author.Tests.{lt-leb, le-leb, lt-ltb, le-ltb}
+use borrow.Author.Tests.{lt-leb, lt-ltb, le-ltb}
 use Rattle.engine.specs.Run.{allBelow, repeats, orderly}
 use Rattle.engine.proofs.Lists.{rest, last, not-there, twice, in-order}
 use Rattle.engine.proofs.check.order_ok.Statement.{statement}
@@ -48,7 +48,12 @@ loop-less : tie.Need-loop-less Inv-loop μ-loop
 loop-less c = omega arith
 
 loop-again : tie.Need-loop-again Inv-loop μ-loop
-loop-again c = (rw (lt-ltb _ _ (c .before .before .if2 .left)) at (rest (allBelow (c .before .before .before .before .before .before .before .before .args .count)) _ _ (c .before .before .before .before .before .loop .inv .0) (c .before .before .before .before .loop-test .taken)), rw (sym (c .before .stands-from .ensures) ∙ (c .if3 .left)) at (rest repeats _ _ (c .before .before .before .before .before .loop .inv .1) (c .before .before .before .before .loop-test .taken)))
+loop-again c =
+    let t = c .before .before .before .before in
+    let w = t .before in (
+      rw (lt-ltb _ _ (c .before .before .if2 .left)) at (rest (allBelow (w .before .before .before .args .count)) _ _ (w .loop .inv .0) (t .loop-test .taken)),
+      rw (sym (c .before .stands-from .ensures) ∙ c .if3 .left) at (rest repeats _ _ (w .loop .inv .1) (t .loop-test .taken)),
+    )
 
 returns-4 : tie.Need-returns-4 Inv-loop μ-loop
 returns-4 c = in-order _ _ (c .before .before .if1 .left) (last (allBelow (c .before .before .before .before .args .count)) _ _ (c .before .loop .inv .0) (c .loop-test .left)) (last repeats _ _ (c .before .loop .inv .1) (c .loop-test .left))

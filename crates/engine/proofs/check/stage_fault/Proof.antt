@@ -1,8 +1,6 @@
 -- `engine::check::stage_fault` meets its contract: the first of 5, 6, 7 that fails, or none. Assumes nothing.
-use mathlib.Core.Path.{sym, ap, _∙_}
+use mathlib.Core.Path.{_∙_}
 use Rattle.magnetron.proofs.Tests.{holds, fails}
-use Rattle.microwave.specs.Parameter.{looked}
-use Rattle.microwave.specs.declared.parameter.Ask.{Ask}
 use Rattle.microwave.proofs.Asked.{none-found, one-found}
 use Rattle.engine.proofs.Faults.{lacks, answers, first-fails, second-fails, third-fails, none-fails}
 use borrow.Author.Needs.{needs}
@@ -16,7 +14,7 @@ all-there-requires : tie.Need-all-there-requires
 all-there-requires c κs = search needs
 
 returns : tie.Need-returns
-returns c = first-fails _ _ _ _ _ (fails (rw ((c .before .before .inputs .ensures)) at ((c .before .all-there .ensures))) (c .if1 .taken))
+returns c = first-fails _ _ _ _ _ (fails (rw (c .before .before .inputs .ensures) at (c .before .all-there .ensures)) (c .if1 .taken))
 
 level-ask-requires : tie.Need-level-ask-requires
 level-ask-requires c κs = search needs
@@ -32,8 +30,9 @@ enum-told-2 c = search needs
 
 returns-2 : tie.Need-returns-2
 returns-2 c =
-    second-fails _ _ _ _ _ (holds (rw ((c .before .before .before .before .before .before .inputs .ensures)) at ((c .before .before .before .before .before .all-there .ensures))) (c .before .before .before .before .if1 .left))
-    (none-found _ _ _ _ _ (rw ((c .before .before .before .level-ask .ensures)) at ((c .before .before .lookup .ensures))) ((c .enum-told2 .given .1)))
+    let there = c .before .before .before .before in
+    second-fails _ _ _ _ _ (holds (rw (there .before .before .inputs .ensures) at (there .before .all-there .ensures)) (there .if1 .left))
+    (none-found _ _ _ _ _ (rw (c .before .before .before .level-ask .ensures) at (c .before .before .lookup .ensures)) (c .enum-told2 .given .1))
 
 asks-requires : tie.Need-asks-requires
 asks-requires c κs = search needs
@@ -43,23 +42,34 @@ missing-requires c κs = search needs
 
 returns-3 : tie.Need-returns-3
 returns-3 c =
-    second-fails _ _ _ _ _ (holds (rw ((c .before .before .before .before .before .before .before .before .before .inputs .ensures)) at ((c .before .before .before .before .before .before .before .before .all-there .ensures))) (c .before .before .before .before .before .before .before .if1 .left))
-    (one-found _ _ _ _ _ _ (rw ((c .before .before .before .before .before .before .level-ask .ensures)) at ((c .before .before .before .before .before .lookup .ensures))) ((c .before .before .before .enum-told .given .1)) ∙ lacks _ _ (rw ((c .before .before .asks .ensures)) at ((c .before .missing .ensures))) (c .if2 .taken))
+    let level = c .before .before .before in
+    let there = level .before .before .before .before in
+    second-fails _ _ _ _ _ (holds (rw (there .before .before .inputs .ensures) at (there .before .all-there .ensures)) (there .if1 .left))
+    (one-found _ _ _ _ _ _ (rw (level .before .before .before .level-ask .ensures) at (level .before .before .lookup .ensures)) (level .enum-told .given .1)
+    ∙ lacks _ _ (rw (c .before .before .asks .ensures) at (c .before .missing .ensures)) (c .if2 .taken))
 
 no-clash-requires : tie.Need-no-clash-requires
 no-clash-requires c κs = search needs
 
 returns-4 : tie.Need-returns-4
 returns-4 c =
-    third-fails _ _ _ _ _ (holds (rw ((c .before .before .before .before .before .before .before .before .before .before .before .inputs .ensures)) at ((c .before .before .before .before .before .before .before .before .before .before .all-there .ensures))) (c .before .before .before .before .before .before .before .before .before .if1 .left))
-    (one-found _ _ _ _ _ _ (rw ((c .before .before .before .before .before .before .before .before .level-ask .ensures)) at ((c .before .before .before .before .before .before .before .lookup .ensures))) ((c .before .before .before .before .before .enum-told .given .1)) ∙ answers _ _ (rw ((c .before .before .before .before .asks .ensures)) at ((c .before .before .before .missing .ensures))) (c .before .before .if2 .left))
-    (fails (rw ((c .before .before .before .before .before .before .before .before .before .before .before .inputs .ensures)) at ((c .before .no-clash .ensures))) (c .if3 .taken))
+    let found = c .before .before in
+    let level = found .before .before .before in
+    let there = level .before .before .before .before in
+    third-fails _ _ _ _ _ (holds (rw (there .before .before .inputs .ensures) at (there .before .all-there .ensures)) (there .if1 .left))
+    (one-found _ _ _ _ _ _ (rw (level .before .before .before .level-ask .ensures) at (level .before .before .lookup .ensures)) (level .enum-told .given .1)
+    ∙ answers _ _ (rw (found .before .before .asks .ensures) at (found .before .missing .ensures)) (found .if2 .left))
+    (fails (rw (there .before .before .inputs .ensures) at (c .before .no-clash .ensures)) (c .if3 .taken))
 
 returns-5 : tie.Need-returns-5
 returns-5 c =
-    none-fails _ _ _ _ _ (holds (rw ((c .before .before .before .before .before .before .before .before .before .before .before .inputs .ensures)) at ((c .before .before .before .before .before .before .before .before .before .before .all-there .ensures))) (c .before .before .before .before .before .before .before .before .before .if1 .left))
-    (one-found _ _ _ _ _ _ (rw ((c .before .before .before .before .before .before .before .before .level-ask .ensures)) at ((c .before .before .before .before .before .before .before .lookup .ensures))) ((c .before .before .before .before .before .enum-told .given .1)) ∙ answers _ _ (rw ((c .before .before .before .before .asks .ensures)) at ((c .before .before .before .missing .ensures))) (c .before .before .if2 .left))
-    (holds (rw ((c .before .before .before .before .before .before .before .before .before .before .before .inputs .ensures)) at ((c .before .no-clash .ensures))) (c .if3 .left))
+    let found = c .before .before in
+    let level = found .before .before .before in
+    let there = level .before .before .before .before in
+    none-fails _ _ _ _ _ (holds (rw (there .before .before .inputs .ensures) at (there .before .all-there .ensures)) (there .if1 .left))
+    (one-found _ _ _ _ _ _ (rw (level .before .before .before .level-ask .ensures) at (level .before .before .lookup .ensures)) (level .enum-told .given .1)
+    ∙ answers _ _ (rw (found .before .before .asks .ensures) at (found .before .missing .ensures)) (found .if2 .left))
+    (holds (rw (there .before .before .inputs .ensures) at (c .before .no-clash .ensures)) (c .if3 .left))
 
 pub stage-fault-spec : {M : Type 1} → statement M
 stage-fault-spec =

@@ -1,5 +1,5 @@
 -- `engine::check::stands_from` meets its contract: the number is met, or stands nowhere from there on. Assumes nothing.
-use mathlib.Core.Path.{_≡_, refl, sym}
+use mathlib.Core.Path.{_≡_, refl}
 use Prim.Native.Nat.{_-_}
 use native.Mathlib.Omega.{arith}
 use lib.ListN.{length, drop}

@@ -19,10 +19,10 @@ enum-known-machine-2 : tie.Need-enum-known-machine-2
 enum-known-machine-2 c = search needs
 
 returns : tie.Need-returns
-returns c = simp (sym ((c .before .before .before .coefficients .ensures) ∙ ap (λ (f : Filter). machineOf f ((c .before .before .before .before .before .args .w) .«sample_width_secs»)) ((c .before .before .before .before .with-numbers .ensures))), (c .before .machine .given .1))
+returns c = simp (sym ((c .before .before .before .coefficients .ensures) ∙ ap (λ (f : Filter). machineOf f ((c .before .before .before .before .before .args .window) .«sample_width_secs»)) (c .before .before .before .before .with-numbers .ensures)), c .before .machine .given .1)
 
 returns-2 : tie.Need-returns-2
-returns-2 c = simp (sym ((c .before .before .before .coefficients .ensures) ∙ ap (λ (f : Filter). machineOf f ((c .before .before .before .before .before .args .w) .«sample_width_secs»)) ((c .before .before .before .before .with-numbers .ensures))), (c .before .machine2 .given .1))
+returns-2 c = simp (sym ((c .before .before .before .coefficients .ensures) ∙ ap (λ (f : Filter). machineOf f ((c .before .before .before .before .before .args .window) .«sample_width_secs»)) (c .before .before .before .before .with-numbers .ensures)), c .before .machine2 .given .1)
 
 pub filter-machine-spec : {M : Type 1} → statement M
 filter-machine-spec =

@@ -7,7 +7,7 @@ d-phase-requires : tie.Need-d-phase-requires
 d-phase-requires c κs = search needs
 
 returns : tie.Need-returns
-returns c = rw ((c .d-phase .ensures))
+returns c = rw (c .d-phase .ensures)
 
 pub oscillator-machine-spec : {M : Type 1} → statement M
 oscillator-machine-spec = tie.close (tie.spec d-phase-requires returns)

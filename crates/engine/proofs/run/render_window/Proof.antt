@@ -7,7 +7,7 @@ nearest-u64-to-f64-requires : tie.Need-nearest-u64-to-f64-requires
 nearest-u64-to-f64-requires c κs = search needs
 
 returns : tie.Need-returns
-returns c = rw ((c .nearest-u64-to-f64 .ensures))
+returns c = rw (c .nearest-u64-to-f64 .ensures)
 
 pub render-window-spec : {M : Type 1} → statement M
 render-window-spec = tie.close (tie.spec nearest-u64-to-f64-requires returns)

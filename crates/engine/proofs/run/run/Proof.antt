@@ -28,10 +28,13 @@ same-length-3 c = search needs
 
 returns : tie.Need-returns
 unfolding runOf leftBy
-returns c = rw ((c .refused .ensures), ← (c .before .before .before .before .before .before .before .render-window .ensures)) (left-refused _ _ _ _ _ (c .before .before .before .judge .ensures) (c .before .if1 .taken))
+returns c = rw (c .refused .ensures, ← (c .before .before .before .before .before .before .before .render-window .ensures)) (left-refused _ _ _ _ _ (c .before .before .before .judge .ensures) (c .before .if1 .taken))
 
 run-order-requires : tie.Need-run-order-requires
-run-order-requires c κs = passed-all _ ((c .before .before .before .before .before .before .before .before .before .before .before .before .before .before .before .before .args .zeros .now)) _ _ (judged-passed _ _ _ _ (ap (λ (v : Verdict). v .number) (sym (c .before .before .before .before .before .judge .ensures)) ∙ (c .before .before .before .if1 .left)))
+run-order-requires c κs =
+    let t = c .before .before .before in
+    passed-all _ (t .before .before .before .before .before .before .before .before .before .before .before .before .before .args .zeros .now) _ _
+    (judged-passed _ _ _ _ (ap (λ (v : Verdict). v .number) (sym (t .before .before .judge .ensures)) ∙ t .if1 .left))
 
 same-length-4 : tie.Need-same-length-4
 same-length-4 c = search needs
@@ -44,7 +47,11 @@ same-length-6 c = search needs
 
 returns-2 : tie.Need-returns-2
 unfolding runOf
-returns-2 c = rw (← (c .before .before .before .before .before .before .before .before .before .before .before .before .before .before .before .before .render-window .ensures)) ((c .before .before .before .before .before .before .run-order .ensures) ∙ left-done _ _ _ _ (judged-passed _ _ _ _ (ap (λ (v : Verdict). v .number) (sym (c .before .before .before .before .before .before .before .before .before .before .before .before .judge .ensures)) ∙ (c .before .before .before .before .before .before .before .before .before .before .if1 .left))))
+returns-2 c =
+    let t = c .before .before .before .before .before .before .before .before .before .before in
+    rw (← (t .before .before .before .before .before .before .render-window .ensures))
+    (c .before .before .before .before .before .before .run-order .ensures
+    ∙ left-done _ _ _ _ (judged-passed _ _ _ _ (ap (λ (v : Verdict). v .number) (sym (t .before .before .judge .ensures)) ∙ t .if1 .left)))
 
 pub run-spec : {M : Type 1} → statement M
 run-spec =

@@ -1,14 +1,13 @@
 -- `engine::run::run_order` meets its contract: the invariant is that the stages so far are done as defined, and that those left still pass their checks (`Along`). Assumes nothing.
-use mathlib.Core.Path.{_≡_, refl, sym, ap, ap₂, _∙_}
+use mathlib.Core.Path.{refl, sym, ap, _∙_}
 use Prim.Native.Nat.{_-_}
 use native.Mathlib.Omega.{arith}
 use lib.ListN.{length}
 use borrow.Author.Needs.{needs}
 use Rattle.magnetron.specs.Activity.{greaterOf}
 use Rattle.magnetron.specs.Pools.{marksIn}
-use Rattle.magnetron.specs.declared.buffer.Marks.{Marks}
-use Rattle.engine.specs.Run.{planOf, worldOf, leftBy, done}
-use Rattle.engine.proofs.Along.{bounded, stage-there, ring-lies, ring-small, part-lies, part-ready, stepped, Along, along-start, along-here, along-more, along-end}
+use Rattle.engine.specs.Run.{planOf, worldOf, leftBy}
+use Rattle.engine.proofs.Along.{bounded, stage-there, ring-lies, ring-small, part-lies, part-ready, stepped, Along, along-start, along-here, stage-below, along-more, along-end}
 use Rattle.engine.proofs.run.run_order.Statement.{statement}
 use Rattle.engine.proofs.run.run_order.Tie as tie
 
@@ -19,13 +18,13 @@ abbrev μ-loop : tie.MeasureT-loop
 μ-loop order internal₀ external₀ rings₀ values patch pools window starts marks₀ states₀ activity₀ j₀ internal external rings marks states activity j = length order - j
 
 ring-starts-requires : tie.Need-ring-starts-requires Inv-loop μ-loop
-ring-starts-requires c κs = bounded ((c .before .before .before .before .before .before .before .before .pre .entered))
+ring-starts-requires c κs = bounded (c .before .before .before .before .before .before .before .before .pre .entered)
 
 marks-requires : tie.Need-marks-requires Inv-loop μ-loop
 marks-requires c κs = search needs
 
 loop-holds : tie.Need-loop-holds Inv-loop μ-loop
-loop-holds c = rw ((c .before .marks .ensures)) (along-start (c .before .before .before .before .before .before .before .before .before .before .before .pre))
+loop-holds c = rw (c .before .marks .ensures) (along-start (c .before .before .before .before .before .before .before .before .before .before .before .pre))
 
 shared-slice-read-k : tie.Need-shared-slice-read-k Inv-loop μ-loop
 shared-slice-read-k c = omega arith
@@ -34,35 +33,39 @@ cast-k : tie.Need-cast-k Inv-loop μ-loop
 cast-k c = omega (arith, (c .shared-slice-known3 .given) (c .before .before .loop .j))
 
 mul-stage : tie.Need-mul-stage Inv-loop μ-loop
-mul-stage c = omega (arith, stage-there (along-here (c .before .before .loop .inv) (c .before .loop-test .taken)), (c .before .before .before .before .before .before .before .before .before .before .before .before .before .before .pre .entered .few))
+mul-stage c = omega (arith, stage-below (c .before .before .loop .inv) (c .before .loop-test .taken))
 
 element-copy-out-stage : tie.Need-element-copy-out-stage Inv-loop μ-loop
-element-copy-out-stage c = omega (arith, stage-there (along-here (c .before .before .loop .inv) (c .before .loop-test .taken)), (c .before .before .before .before .before .before .before .before .before .before .before .before .before .before .pre .entered .few))
+element-copy-out-stage c = omega (arith, stage-below (c .before .before .loop .inv) (c .before .loop-test .taken))
 
 mul-state : tie.Need-mul-state Inv-loop μ-loop
-mul-state c = omega (arith, stage-there (along-here (c .before .before .before .loop .inv) (c .before .before .loop-test .taken)), (c .before .before .before .before .before .before .before .before .before .before .before .before .before .before .before .pre .entered .few))
+mul-state c = omega (arith, stage-below (c .before .before .before .loop .inv) (c .before .before .loop-test .taken))
 
 element-copy-out-state : tie.Need-element-copy-out-state Inv-loop μ-loop
-element-copy-out-state c = omega (arith, stage-there (along-here (c .before .before .before .loop .inv) (c .before .before .loop-test .taken)), (c .before .before .before .before .before .before .before .before .before .before .before .before .before .before .before .pre .entered .few))
+element-copy-out-state c = omega (arith, stage-below (c .before .before .before .loop .inv) (c .before .before .loop-test .taken))
 
 mul-at : tie.Need-mul-at Inv-loop μ-loop
-mul-at c = omega (arith, stage-there (along-here (c .before .before .before .before .loop .inv) (c .before .before .before .loop-test .taken)), (c .before .before .before .before .before .before .before .before .before .before .before .before .before .before .before .before .pre .entered .few))
+mul-at c = omega (arith, stage-below (c .before .before .before .before .loop .inv) (c .before .before .before .loop-test .taken))
 
 element-copy-out-at : tie.Need-element-copy-out-at Inv-loop μ-loop
-element-copy-out-at c = omega (arith, stage-there (along-here (c .before .before .before .before .loop .inv) (c .before .before .before .loop-test .taken)), (c .before .before .before .before .before .before .before .before .before .before .before .before .before .before .before .before .pre .entered .few))
+element-copy-out-at c = omega (arith, stage-below (c .before .before .before .before .loop .inv) (c .before .before .before .loop-test .taken))
 
 ring-len-requires : tie.Need-ring-len-requires Inv-loop μ-loop
 ring-len-requires c κs = ring-small (along-here (c .before .before .before .before .before .loop .inv) (c .before .before .before .before .loop-test .taken))
 
 add-end : tie.Need-add-end Inv-loop μ-loop
 add-end c =
-    let ok = along-here (c .before .before .before .before .before .before .loop .inv) (c .before .before .before .before .before .loop-test .taken) in
-    omega (arith, ring-lies ok, (c .before .before .before .before .before .before .before .before .before .ring-starts .ensures .each) _ (stage-there ok), (c .ring-len .ensures), (c .before .before .before .before .before .before .loop .inv .rings))
+    let t = c .before .before .before .before .before in
+    let w = t .before in
+    let ok = along-here (w .loop .inv) (t .loop-test .taken) in
+    omega (arith, ring-lies ok, (w .before .before .before .ring-starts .ensures .each) _ (stage-there ok), c .ring-len .ensures, w .loop .inv .rings, w .before .before .before .before .before .before .before .before .before .before .before .before .good .1 .1 .1 .1 .0 .1)
 
 mul-ring : tie.Need-mul-ring Inv-loop μ-loop
 mul-ring c =
-    let ok = along-here (c .before .before .before .before .before .before .loop .inv) (c .before .before .before .before .before .loop-test .taken) in
-    omega (arith, ring-lies ok, (c .before .before .before .before .before .before .before .before .before .ring-starts .ensures .each) _ (stage-there ok), (c .before .before .before .before .before .before .loop .inv .rings), (c .before .before .before .before .before .before .before .before .before .before .before .before .before .before .before .before .before .before .good .1 .1 .1 .1 .0 .1))
+    let t = c .before .before .before .before .before in
+    let w = t .before in
+    let ok = along-here (w .loop .inv) (t .loop-test .taken) in
+    omega (arith, ring-lies ok, (w .before .before .before .ring-starts .ensures .each) _ (stage-there ok), w .loop .inv .rings, w .before .before .before .before .before .before .before .before .before .before .before .before .good .1 .1 .1 .1 .0 .1)
 
 sub-ring : tie.Need-sub-ring Inv-loop μ-loop
 sub-ring c = search needs
@@ -72,19 +75,27 @@ part-ring-start c = search needs
 
 part-ring-end : tie.Need-part-ring-end Inv-loop μ-loop
 part-ring-end c =
-    let ok = along-here (c .before .before .before .before .before .before .loop .inv) (c .before .before .before .before .before .loop-test .taken) in
-    part-lies ok _ _ ((c .before .before .before .before .before .before .before .before .before .ring-starts .ensures .each) _ (stage-there ok)) (c .ring-len .ensures)
+    let t = c .before .before .before .before .before in
+    let w = t .before in
+    let ok = along-here (w .loop .inv) (t .loop-test .taken) in
+    part-lies ok _ _ ((w .before .before .before .ring-starts .ensures .each) _ (stage-there ok)) (c .ring-len .ensures)
 
-turn-requires : tie.Need-turn-requires Inv-loop μ-loop
-turn-requires c κs =
-    let ok = along-here (c .before .before .before .before .before .before .before .before .before .loop .inv) (c .before .before .before .before .before .before .before .before .loop-test .taken) in
-    part-ready ok _ _ ((c .before .before .before .before .before .before .before .before .before .before .before .before .ring-starts .ensures .each) _ (stage-there ok)) (c .before .before .before .ring-len .ensures)
+take-requires : tie.Need-take-requires Inv-loop μ-loop
+take-requires c κs =
+    let t = c .before .before .before .before .before .before .before .before in
+    let w = t .before in
+    let ok = along-here (w .loop .inv) (t .loop-test .taken) in
+    part-ready ok _ _ ((w .before .before .before .ring-starts .ensures .each) _ (stage-there ok)) (c .before .before .before .ring-len .ensures)
 
 mul-next : tie.Need-mul-next Inv-loop μ-loop
-mul-next c = omega (arith, stage-there (along-here (c .before .before .before .before .before .before .before .before .before .before .before .before .before .before .before .before .loop .inv) (c .before .before .before .before .before .before .before .before .before .before .before .before .before .before .before .loop-test .taken)), (c .before .before .before .before .before .before .before .before .before .before .before .before .before .before .before .before .before .before .before .before .before .before .before .before .before .before .before .before .pre .entered .few))
+mul-next c =
+    let t = c .before .before .before .before .before .before .before .before .before .before .before .before .before .before .before in
+    omega (arith, stage-below (t .before .loop .inv) (t .loop-test .taken))
 
 element-set-from-next : tie.Need-element-set-from-next Inv-loop μ-loop
-element-set-from-next c = omega (arith, stage-there (along-here (c .before .before .before .before .before .before .before .before .before .before .before .before .before .before .before .before .loop .inv) (c .before .before .before .before .before .before .before .before .before .before .before .before .before .before .before .loop-test .taken)), (c .before .before .before .before .before .before .before .before .before .before .before .before .before .before .before .before .before .before .before .before .before .before .before .before .before .before .before .before .pre .entered .few))
+element-set-from-next c =
+    let t = c .before .before .before .before .before .before .before .before .before .before .before .before .before .before .before in
+    omega (arith, stage-below (t .before .loop .inv) (t .loop-test .taken))
 
 written-requires : tie.Need-written-requires Inv-loop μ-loop
 written-requires c κs = search needs
@@ -96,17 +107,23 @@ greater-requires : tie.Need-greater-requires Inv-loop μ-loop
 greater-requires c κs = search needs
 
 add-j : tie.Need-add-j Inv-loop μ-loop
-add-j c = omega (arith, (c .before .before .before .before .before .before .before .before .before .before .before .before .before .before .before .before .before .before .loop-test .taken), (c .before .before .before .before .before .before .before .before .before .before .before .before .before .before .before .before .before .before .before .before .before .before .before .before .before .before .before .before .before .before .before .pre .entered .short))
+add-j c =
+    let t = c .before .before .before .before .before .before .before .before .before .before .before .before .before .before .before .before .before .before in
+    omega (arith, t .loop-test .taken, t .before .before .before .before .before .before .before .before .before .before .before .before .before .pre .entered .short)
 
 loop-less : tie.Need-loop-less Inv-loop μ-loop
-loop-less c = omega (arith, (c .before .before .before .before .before .before .before .before .before .before .before .before .before .before .before .before .before .before .loop-test .taken))
+loop-less c = omega (arith, c .before .before .before .before .before .before .before .before .before .before .before .before .before .before .before .before .before .before .loop-test .taken)
 
 loop-again : tie.Need-loop-again Inv-loop μ-loop
 loop-again c =
-    let ok = along-here (c .before .before .before .before .before .before .before .before .before .before .before .before .before .before .before .before .before .before .before .loop .inv) (c .before .before .before .before .before .before .before .before .before .before .before .before .before .before .before .before .before .before .loop-test .taken) in
-    along-more (c .before .before .before .before .before .before .before .before .before .before .before .before .before .before .before .before .before .before .before .loop .inv) _ _ (c .before .before .before .before .before .before .before .before .before .before .before .before .before .before .before .before .before .before .loop-test .taken)
-    (stepped ok _ _ ((c .before .before .before .before .before .before .before .before .before .before .before .before .before .before .before .before .before .before .before .before .before .before .ring-starts .ensures .each) _ (stage-there ok)) (c .before .before .before .before .before .before .before .before .before .before .before .before .before .ring-len .ensures) ((c .before .before .before .before .before .before .before .before .before .turn .last .1 .1 .1 .1 .1 .1 .0)) ((c .before .before .before .before .before .before .before .before .before .turn .kept .1 .1 .1 .1 .1 .1 .0)) (c .before .before .written .ensures) (c .before .before .before .before .before .before .before .before .before .turn .ensures))
-    ((c .greater .ensures) ∙ ap (greaterOf (c .before .before .before .before .before .before .before .before .before .before .before .before .before .before .before .before .before .before .before .loop .activity)) (c .before .stage-activity .ensures))
+    let n = c .before .before .before .before .before .before .before .before .before in
+    let t = n .before .before .before .before .before .before .before .before .before in
+    let w = t .before in
+    let ok = along-here (w .loop .inv) (t .loop-test .taken) in
+    along-more (w .loop .inv) _ _ (t .loop-test .taken)
+    (stepped ok _ _ ((w .before .before .before .ring-starts .ensures .each) _ (stage-there ok)) (n .before .before .before .before .ring-len .ensures)
+    (n .take .last .1 .1 .0) (n .take .kept .1 .1 .0) (c .before .before .written .ensures) (n .take .ensures))
+    (c .greater .ensures ∙ ap (greaterOf (w .loop .activity)) (c .before .stage-activity .ensures))
 
 with-marks-requires : tie.Need-with-marks-requires Inv-loop μ-loop
 with-marks-requires c κs = search needs
@@ -127,7 +144,7 @@ returns : tie.Need-returns Inv-loop μ-loop
 unfolding leftBy
 returns c =
     let e = along-end (c .before .before .before .loop .inv) (c .before .before .loop-test .left) in
-    rw ((c .finished .ensures), (c .before .with-marks .ensures), sym (e .0), sym (e .1)) refl
+    rw (c .finished .ensures, c .before .with-marks .ensures, sym (e .0), sym (e .1)) refl
 
 pub run-order-spec : {M : Type 1} → statement M
 run-order-spec =
@@ -152,7 +169,7 @@ run-order-spec =
     sub-ring
     part-ring-start
     part-ring-end
-    turn-requires
+    take-requires
     mul-next
     element-set-from-next
     written-requires

@@ -7,7 +7,7 @@ new-state-requires : tie.Need-new-state-requires
 new-state-requires c κs = search needs
 
 returns : tie.Need-returns
-returns c = rw ((c .new-state .ensures))
+returns c = rw (c .new-state .ensures)
 
 pub new-states-spec : {M : Type 1} → statement M
 new-states-spec = tie.close (tie.spec new-state-requires returns)

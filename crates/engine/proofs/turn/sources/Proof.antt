@@ -11,25 +11,25 @@ enum-known-inputs : tie.Need-enum-known-inputs
 enum-known-inputs c = search needs
 
 source-requires : tie.Need-source-requires
-source-requires c κs = (c .before .before .before .pre .each) _ (only ((c .before .inputs .given .1)))
+source-requires c κs = (c .before .before .before .pre .each) _ (only (c .before .inputs .given .1))
 
 enum-known-inputs-2 : tie.Need-enum-known-inputs-2
 enum-known-inputs-2 c = search needs
 
 source-requires-2 : tie.Need-source-requires-2
-source-requires-2 c κs = (c .before .before .before .pre .each) _ (former ((c .before .inputs2 .given .1)))
+source-requires-2 c κs = (c .before .before .before .pre .each) _ (former (c .before .inputs2 .given .1))
 
 source-requires-3 : tie.Need-source-requires-3
-source-requires-3 c κs = (c .before .before .before .before .pre .each) _ (latter ((c .before .before .inputs2 .given .1)))
+source-requires-3 c κs = (c .before .before .before .before .pre .each) _ (latter (c .before .before .inputs2 .given .1))
 
 returns : tie.Need-returns
-returns c = simp ((c .enum-told .given .1))
+returns c = simp (c .enum-told .given .1)
 
 returns-2 : tie.Need-returns-2
-returns-2 c = simp ((c .before .before .inputs .given .1), (c .source .ensures))
+returns-2 c = simp (c .before .before .inputs .given .1, c .source .ensures)
 
 returns-3 : tie.Need-returns-3
-returns-3 c = simp ((c .before .before .before .inputs2 .given .1), (c .before .source2 .ensures), (c .source3 .ensures))
+returns-3 c = simp (c .before .before .before .inputs2 .given .1, c .before .source2 .ensures, c .source3 .ensures)
 
 pub sources-spec : {M : Type 1} → statement M
 sources-spec =

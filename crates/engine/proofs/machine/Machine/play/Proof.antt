@@ -15,7 +15,9 @@ same-length : tie.Need-same-length
 same-length c = search needs
 
 returns : tie.Need-returns
-returns c = rw ((c .before .before .before .before .before .self .given .1)) (plain-stepped (c .before .before .before .before .before .before .before .before .before .before .args .inputs) ((c .before .before .before .before .before .before .before .before .before .before .args .other .now)) (c .before .before .plain-window .ensures))
+returns c =
+    let s = c .before .before .before .before .before .before .before .before .before .before in
+    rw (c .before .before .before .before .before .self .given .1) (plain-stepped (s .args .inputs) (s .args .other .now) (c .before .before .plain-window .ensures))
 
 enum-known-self-2 : tie.Need-enum-known-self-2
 enum-known-self-2 c = search needs
@@ -27,7 +29,9 @@ same-length-2 : tie.Need-same-length-2
 same-length-2 c = search needs
 
 returns-2 : tie.Need-returns-2
-returns-2 c = rw ((c .before .before .before .before .before .before .self2 .given .1)) (lifted phases (c .before .before .before .before .before .before .before .before .before .before .before .args .inputs) ((c .before .before .before .before .before .before .before .before .before .before .before .args .other .now)) refl refl (c .before .before .oscillator-window .ensures))
+returns-2 c =
+    let s = c .before .before .before .before .before .before .before .before .before .before .before in
+    rw (c .before .before .before .before .before .before .self2 .given .1) (lifted phases (s .args .inputs) (s .args .other .now) refl refl (c .before .before .oscillator-window .ensures))
 
 enum-known-self-3 : tie.Need-enum-known-self-3
 enum-known-self-3 c = search needs
@@ -39,7 +43,9 @@ same-length-3 : tie.Need-same-length-3
 same-length-3 c = search needs
 
 returns-3 : tie.Need-returns-3
-returns-3 c = rw ((c .before .before .before .before .before .before .self3 .given .1)) (lifted onePole (c .before .before .before .before .before .before .before .before .before .before .before .args .inputs) ((c .before .before .before .before .before .before .before .before .before .before .before .args .other .now)) refl refl (c .before .before .one-pole-window .ensures))
+returns-3 c =
+    let s = c .before .before .before .before .before .before .before .before .before .before .before in
+    rw (c .before .before .before .before .before .before .self3 .given .1) (lifted onePole (s .args .inputs) (s .args .other .now) refl refl (c .before .before .one-pole-window .ensures))
 
 enum-known-self-4 : tie.Need-enum-known-self-4
 enum-known-self-4 c = search needs
@@ -51,13 +57,17 @@ same-length-4 : tie.Need-same-length-4
 same-length-4 c = search needs
 
 returns-4 : tie.Need-returns-4
-returns-4 c = rw ((c .before .before .before .before .before .before .self4 .given .1)) (lifted biquad (c .before .before .before .before .before .before .before .before .before .before .before .args .inputs) ((c .before .before .before .before .before .before .before .before .before .before .before .args .other .now)) refl refl (c .before .before .biquad-window .ensures))
+returns-4 c =
+    let s = c .before .before .before .before .before .before .before .before .before .before .before in
+    rw (c .before .before .before .before .before .before .self4 .given .1) (lifted biquad (s .args .inputs) (s .args .other .now) refl refl (c .before .before .biquad-window .ensures))
 
 enum-known-self-5 : tie.Need-enum-known-self-5
 enum-known-self-5 c = search needs
 
 string-window-requires : tie.Need-string-window-requires
-string-window-requires c κs = (((c .before .before .before .before .before .before .before .before .before .pre .lies), (c .before .before .before .before .before .before .before .before .before .pre .first)), rw ((c .before .before .before .before .self5 .given .1)) at ((c .before .before .before .before .before .before .before .before .before .pre .ring)))
+string-window-requires c κs =
+    let s = c .before .before .before .before .before .before .before .before .before in
+    ((s .pre .lies, s .pre .first), rw (c .before .before .before .before .self5 .given .1) at (s .pre .ring))
 
 same-length-5 : tie.Need-same-length-5
 same-length-5 c = search needs
@@ -66,7 +76,9 @@ same-length-6 : tie.Need-same-length-6
 same-length-6 c = search needs
 
 returns-5 : tie.Need-returns-5
-returns-5 c = rw ((c .before .before .before .before .before .before .before .before .before .self5 .given .1)) (lifted string (c .before .before .before .before .before .before .before .before .before .before .before .before .before .before .args .inputs) ((c .before .before .before .before .before .before .before .before .before .before .before .before .before .before .args .other .now)) refl refl (c .before .before .before .before .string-window .ensures))
+returns-5 c =
+    let s = c .before .before .before .before .before .before .before .before .before .before .before .before .before .before in
+    rw (c .before .before .before .before .before .before .before .before .before .self5 .given .1) (lifted string (s .args .inputs) (s .args .other .now) refl refl (c .before .before .before .before .string-window .ensures))
 
 pub play-spec : {M : Type 1} → statement M
 play-spec =

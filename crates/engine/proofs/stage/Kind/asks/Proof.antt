@@ -49,19 +49,19 @@ returns-2 : tie.Need-returns-2
 returns-2 c = search needs
 
 returns-3 : tie.Need-returns-3
-returns-3 c = simp ((c .before .before .self .given .1), (c .required .ensures))
+returns-3 c = simp (c .before .before .self .given .1, c .required .ensures)
 
 returns-4 : tie.Need-returns-4
-returns-4 c = simp ((c .before .before .self2 .given .1)) ((c .asks .ensures))
+returns-4 c = simp (c .before .before .self2 .given .1) (c .asks .ensures)
 
 returns-5 : tie.Need-returns-5
-returns-5 c = simp ((c .before .before .self3 .given .1)) ((c .oscillator-asks .ensures))
+returns-5 c = simp (c .before .before .self3 .given .1) (c .oscillator-asks .ensures)
 
 returns-6 : tie.Need-returns-6
-returns-6 c = simp ((c .before .before .self4 .given .1)) ((c .oscillator-asks2 .ensures))
+returns-6 c = simp (c .before .before .self4 .given .1) (c .oscillator-asks2 .ensures)
 
 returns-7 : tie.Need-returns-7
-returns-7 c = simp ((c .before .before .self5 .given .1)) ((c .waveguide-asks .ensures))
+returns-7 c = simp (c .before .before .self5 .given .1) (c .waveguide-asks .ensures)
 
 returns-8 : tie.Need-returns-8
 returns-8 c = search needs

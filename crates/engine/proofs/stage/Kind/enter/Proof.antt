@@ -34,28 +34,28 @@ enum-told-8 : tie.Need-enum-told-8
 enum-told-8 c = search needs
 
 returns : tie.Need-returns
-returns c = simp ((c .enum-told .given .1))
+returns c = simp (c .enum-told .given .1)
 
 returns-2 : tie.Need-returns-2
-returns-2 c = simp ((c .enum-told2 .given .1))
+returns-2 c = simp (c .enum-told2 .given .1)
 
 returns-3 : tie.Need-returns-3
-returns-3 c = simp ((c .enum-told3 .given .1))
+returns-3 c = simp (c .enum-told3 .given .1)
 
 returns-4 : tie.Need-returns-4
-returns-4 c = simp ((c .enum-told4 .given .1))
+returns-4 c = simp (c .enum-told4 .given .1)
 
 returns-5 : tie.Need-returns-5
-returns-5 c = simp ((c .before .enum-told5 .given .1), (c .saving .ensures))
+returns-5 c = simp (c .before .enum-told5 .given .1, c .saving .ensures)
 
 returns-6 : tie.Need-returns-6
-returns-6 c = simp ((c .before .enum-told6 .given .1), (c .saving2 .ensures))
+returns-6 c = simp (c .before .enum-told6 .given .1, c .saving2 .ensures)
 
 returns-7 : tie.Need-returns-7
-returns-7 c = simp ((c .enum-told7 .given .1))
+returns-7 c = simp (c .enum-told7 .given .1)
 
 returns-8 : tie.Need-returns-8
-returns-8 c = simp ((c .enum-told8 .given .1))
+returns-8 c = simp (c .enum-told8 .given .1)
 
 pub enter-spec : {M : Type 1} → statement M
 enter-spec =

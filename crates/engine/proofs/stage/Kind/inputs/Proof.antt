@@ -28,28 +28,28 @@ enum-known-self-7 : tie.Need-enum-known-self-7
 enum-known-self-7 c = search needs
 
 returns : tie.Need-returns
-returns c = simp ((c .before .self .given .1))
+returns c = simp (c .before .self .given .1)
 
 returns-2 : tie.Need-returns-2
-returns-2 c = simp ((c .before .self2 .given .1))
+returns-2 c = simp (c .before .self2 .given .1)
 
 returns-3 : tie.Need-returns-3
-returns-3 c = simp ((c .before .self3 .given .1))
+returns-3 c = simp (c .before .self3 .given .1)
 
 returns-4 : tie.Need-returns-4
-returns-4 c = simp ((c .before .self4 .given .1))
+returns-4 c = simp (c .before .self4 .given .1)
 
 returns-5 : tie.Need-returns-5
 returns-5 c = search needs
 
 returns-6 : tie.Need-returns-6
-returns-6 c = simp ((c .before .self5 .given .1))
+returns-6 c = simp (c .before .self5 .given .1)
 
 returns-7 : tie.Need-returns-7
-returns-7 c = simp ((c .before .self6 .given .1))
+returns-7 c = simp (c .before .self6 .given .1)
 
 returns-8 : tie.Need-returns-8
-returns-8 c = simp ((c .before .self7 .given .1))
+returns-8 c = simp (c .before .self7 .given .1)
 
 pub inputs-spec : {M : Type 1} → statement M
 inputs-spec =

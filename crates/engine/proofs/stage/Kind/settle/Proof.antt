@@ -46,28 +46,28 @@ enum-told-4 : tie.Need-enum-told-4
 enum-told-4 c = search needs
 
 returns : tie.Need-returns
-returns c = simp ((c .enum-told .given .1))
+returns c = simp (c .enum-told .given .1)
 
 returns-2 : tie.Need-returns-2
-returns-2 c = simp ((c .enum-told2 .given .1))
+returns-2 c = simp (c .enum-told2 .given .1)
 
 returns-3 : tie.Need-returns-3
-returns-3 c = simp ((c .before .enum-told3 .given .1), (c .clip-limit .ensures))
+returns-3 c = simp (c .before .enum-told3 .given .1, c .clip-limit .ensures)
 
 returns-4 : tie.Need-returns-4
-returns-4 c = simp ((c .before .before .self .given .1), (c .filter-machine .ensures))
+returns-4 c = simp (c .before .before .self .given .1, c .filter-machine .ensures)
 
 returns-5 : tie.Need-returns-5
-returns-5 c = simp ((c .before .before .self2 .given .1), (c .oscillator-machine .ensures))
+returns-5 c = simp (c .before .before .self2 .given .1, c .oscillator-machine .ensures)
 
 returns-6 : tie.Need-returns-6
-returns-6 c = simp ((c .before .before .before .self3 .given .1), (c .oscillator-machine2 .ensures), (c .before .driven .ensures))
+returns-6 c = simp (c .before .before .before .self3 .given .1, c .oscillator-machine2 .ensures, c .before .driven .ensures)
 
 returns-7 : tie.Need-returns-7
-returns-7 c = simp ((c .before .before .self4 .given .1), (c .waveguide-machine .ensures))
+returns-7 c = simp (c .before .before .self4 .given .1, c .waveguide-machine .ensures)
 
 returns-8 : tie.Need-returns-8
-returns-8 c = simp ((c .enum-told4 .given .1))
+returns-8 c = simp (c .enum-told4 .given .1)
 
 pub settle-spec : {M : Type 1} → statement M
 settle-spec =

@@ -20,29 +20,34 @@ loop-holds : tie.Need-loop-holds Inv-loop μ-loop
 loop-holds c = (summed-start _ _, all-none _)
 
 mul-stage : tie.Need-mul-stage Inv-loop μ-loop
-mul-stage c = omega (arith, (c .before .before .pre))
+mul-stage c = omega (arith, c .before .before .pre)
 
 element-copy-out-stage : tie.Need-element-copy-out-stage Inv-loop μ-loop
-element-copy-out-stage c = omega (arith, (c .before .before .pre))
+element-copy-out-stage c = omega (arith, c .before .before .pre)
 
 mul-ring-fine : tie.Need-mul-ring-fine Inv-loop μ-loop
-mul-ring-fine c = omega (arith, (c .before .before .before .pre))
+mul-ring-fine c = omega (arith, c .before .before .before .pre)
 
 element-copy-out-ring-fine : tie.Need-element-copy-out-ring-fine Inv-loop μ-loop
-element-copy-out-ring-fine c = omega (arith, (c .before .before .before .pre))
+element-copy-out-ring-fine c = omega (arith, c .before .before .before .pre)
 
 ring-fine-requires : tie.Need-ring-fine-requires Inv-loop μ-loop
 ring-fine-requires c κs = search needs
 
 returns : tie.Need-returns Inv-loop μ-loop
 unfolding ringsOk
-returns c = rw (all-fails (fineIn (c .before .before .before .before .before .before .args .t1) ((c .before .before .before .before .before .before .args .t2 .stages))) _ _ (c .before .before .before .before .loop-test .taken) (fails (c .before .ring-fine .ensures) (c .if1 .taken)))
+returns c =
+    let s = c .before .before .before .before .before .before in
+    rw (all-fails (fineIn (s .args .t1) (s .args .t2 .stages)) _ _ (c .before .before .before .before .loop-test .taken) (fails (c .before .ring-fine .ensures) (c .if1 .taken)))
 
 ring-len-requires : tie.Need-ring-len-requires Inv-loop μ-loop
-ring-len-requires c κs = fine-at (c .before .before .before .before .before .before .args .t1) ((c .before .before .before .before .before .before .args .t2 .stages)) (c .before .before .before .before .before .loop .k) (holds (c .before .ring-fine .ensures) (c .if1 .left))
+ring-len-requires c κs = fine-at (c .before .before .before .before .before .before .args .t1) (c .before .before .before .before .before .before .args .t2 .stages) (c .before .before .before .before .before .loop .k) (holds (c .before .ring-fine .ensures) (c .if1 .left))
 
 add-end : tie.Need-add-end Inv-loop μ-loop
-add-end c = omega (arith, (c .before .before .before .before .before .before .loop .inv .0 .small), (c .ring-len .ensures), fine-at (c .before .before .before .before .before .before .before .args .t1) ((c .before .before .before .before .before .before .before .args .t2 .stages)) (c .before .before .before .before .before .before .loop .k) (holds (c .before .before .ring-fine .ensures) (c .before .if1 .left)), (c .before .before .before .before .before .loop-test .taken), (c .before .before .before .before .before .before .before .pre))
+add-end c =
+    let s = c .before .before .before .before .before .before .before in
+    let w = c .before .before .before .before .before .before in
+    omega (arith, w .loop .inv .0 .small, c .ring-len .ensures, fine-at (s .args .t1) (s .args .t2 .stages) (w .loop .k) (holds (c .before .before .ring-fine .ensures) (c .before .if1 .left)), c .before .before .before .before .before .loop-test .taken, s .pre)
 
 add-k : tie.Need-add-k Inv-loop μ-loop
 add-k c = omega arith
@@ -51,7 +56,10 @@ loop-less : tie.Need-loop-less Inv-loop μ-loop
 loop-less c = omega arith
 
 loop-again : tie.Need-loop-again Inv-loop μ-loop
-loop-again c = (summed-more _ _ _ _ _ (c .before .before .before .before .before .before .loop .inv .0) (c .before .before .before .before .before .loop-test .taken) (c .ring-len .ensures) (fine-at (c .before .before .before .before .before .before .before .args .t1) ((c .before .before .before .before .before .before .before .args .t2 .stages)) (c .before .before .before .before .before .before .loop .k) (holds (c .before .before .ring-fine .ensures) (c .before .if1 .left))), all-more _ _ (c .before .before .before .before .before .before .loop .inv .1) (holds (c .before .before .ring-fine .ensures) (c .before .if1 .left)))
+loop-again c =
+    let s = c .before .before .before .before .before .before .before in
+    let w = c .before .before .before .before .before .before in
+    (summed-more _ _ _ _ _ (w .loop .inv .0) (c .before .before .before .before .before .loop-test .taken) (c .ring-len .ensures) (fine-at (s .args .t1) (s .args .t2 .stages) (w .loop .k) (holds (c .before .before .ring-fine .ensures) (c .before .if1 .left))), all-more _ _ (w .loop .inv .1) (holds (c .before .before .ring-fine .ensures) (c .before .if1 .left)))
 
 returns-2 : tie.Need-returns-2 Inv-loop μ-loop
 returns-2 c = rings-fit _ _ _ _ _ (c .before .loop .inv .0) (c .before .loop .inv .1) (c .loop-test .left)

@@ -13,10 +13,10 @@ returns : tie.Need-returns
 returns c = no-ring (c .before .args .self .kind) newState (c .match .keys2) .0
 
 add-result : tie.Need-add-result
-add-result c = omega (arith, rw ((c .before .before .kind .given .1)) at ((c .before .before .before .before .pre)))
+add-result c = omega (arith, rw (c .before .before .kind .given .1) at (c .before .before .before .before .pre))
 
 returns-2 : tie.Need-returns-2
-returns-2 c = rw ((c .before .before .kind .given .1))
+returns-2 c = rw (c .before .before .kind .given .1)
 
 pub ring-len-spec : {M : Type 1} → statement M
 ring-len-spec = tie.close (tie.spec enum-known-kind returns add-result returns-2)

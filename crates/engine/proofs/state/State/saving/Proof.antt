@@ -7,7 +7,7 @@ enter-requires : tie.Need-enter-requires
 enter-requires c κs = search needs
 
 returns : tie.Need-returns
-returns c = rw ((c .enter .ensures))
+returns c = rw (c .enter .ensures)
 
 pub saving-spec : {M : Type 1} → statement M
 saving-spec = tie.close (tie.spec enter-requires returns)
