@@ -32,6 +32,7 @@ use Rattle.magnetron.proofs.Told.{fits}
 use Rattle.engine.specs.Run.{Plan, World, outsAt, step, louder, allBelow, holds, repeats, orderly, entry, named, fault, turned, judged, ended, rendered, Left, leftBy}
 use Rattle.engine.specs.Code.{returned}
 use Rattle.engine.proofs.Judged.{judged-passed, passed-all}
+use Rattle.engine.proofs.Ends.{left-done}
 use Rattle.laws.specs.Tied.{tied}
 use Rattle.laws.proofs.Commute.{tied-even, step-swap, fault-same, turn-swap}
 
@@ -73,12 +74,8 @@ module _ (P : Plan) (zeros : List Float) (ks : List ℕ) (w : World) where
   Refused = leaves .ran .answer .number ≢ 0
 
   went : passed (judged P zeros ks w) ≡ true → leaves ≡ leftBy P w (ended P ks w none)
-  unfolding rendered
-  went e = ap (λ (o : Option Verdict). leftBy P w (ended P ks w o)) (go (judged P zeros ks w) e)
-    where
-      go : (o : Option Verdict) → passed o ≡ true → o ≡ none
-      go none f = refl
-      go (some v) f = absurd (false≢true f)
+  unfolding ended
+  went e = sym (left-done P zeros ks w e)
 
   stopped : passed (judged P zeros ks w) ≡ false → Refused
   unfolding rendered ended leftBy
