@@ -1,9 +1,17 @@
-/* The engine as a static library: what `rt staticlib host` exports, for C on x86-64.
+/* The engine as a static library: what `rt staticlib host` exports, for C on x86-64. Link with -lm: oscillators call fmod.
  *
- * Nothing is kept between calls and nothing is allocated. Records go by value and come back by value; samples, zeros, rings, values and the
- * order are lent as a pointer and a count. Every input gets an answer: a refusal says why by its number and changes nothing. What each
- * function answers for any input is proved; see crates/host/specs. A caller must lend what it says it lends: `count` elements that may be
- * read, or written where the pointer is not const, and that do not overlap. Link with -lm: oscillators call fmod. */
+ * Records go by value and come back by value: what comes back is what to pass next time. Samples, zeros, rings, values and the order are
+ * lent, each as a pointer and a count of elements. A pointer is used during the call and never after it; nothing is kept between calls and
+ * nothing is allocated, so that engines with slices of their own may run at the same time. The records are large (a patch has 4,872 bytes,
+ * the states 2,816) and stand on the stack.
+ *
+ * Every input gets an answer, and what each function answers is proved for any input; see crates/host/specs. A refusal says why by its
+ * number and changes nothing: the records come back as they were passed, and no lent sample is touched. One thing is left to the caller: to
+ * lend what it says it lends, `count` elements that may be read, or written where the pointer is not const, and that overlap no others. The
+ * pointer may be NULL where the count is 0.
+ *
+ * Times are in seconds, frequencies in turns per second, phases in turns. Samples may become infinite or NaN, as arithmetic has it; the
+ * sign and the payload of a NaN mean nothing. */
 #ifndef GRYNNADOT_H
 #define GRYNNADOT_H
 
@@ -13,31 +21,45 @@
 
 /* ---- answers */
 
-/* 0 with stage 32, or a refusal: 1 bounds and lengths, 2 window too long, 3 order, 4 rings, 5 no such buffer, 6 parameter, 7 output is an
- * input that is not stale, 22 a stage's kind, choice or mark is unknown. The stage is 32 where a refusal names none. */
+/* 0, done; or why it was refused, the first of these that holds (22 before all others, then 1 to 4; then 5, 6, 7 of one stage after another):
+ *      1  a count of buffers or stages or a capacity is over its bound, a pool's samples are not count * capacity, or the zeros are not
+ *         exactly as many +0.0 as the internal capacity
+ *      2  the window is longer than the internal capacity, or than the external one where there are external buffers
+ *      3  the order names a stage that is not there, names one twice, or is longer than 32
+ *      4  a buffer_size is over 32,767, the rings do not fit into their samples, or a position is not below the length of its ring
+ *      5  there is no such buffer
+ *      6  a parameter's slot is past the lent values, or a parameter is absent that may not be
+ *      7  the output is also an input, is not stale when it is written, and the window is not empty
+ *     22  a stage's kind, choice, modulation or mark is unknown
+ * The stage is the number of the stage at fault for 5, 6, 7 and 22 of a run, and 32 in every other case. */
 typedef struct {
     size_t number;
     size_t stage;
 } grynnadot_verdict;
 
-/* The activity: 0 exhausted, 1 internal, 2 external, 3 observer. */
+/* With the activity: of a write that of its output's pool, 1 internal or 2 external; of a run the greatest of its stages'. It is 0,
+ * exhausted, where the order is empty or the call was refused. 3, observer, ranks above these and is never answered. */
 typedef struct {
     size_t number;
     size_t stage;
     uint8_t activity;
 } grynnadot_answer;
 
-/* ---- pools: at most 16 buffers of at most 4,096 samples each, end to end in one lent slice of count * capacity */
+/* ---- pools: at most 16 buffers of at most 4,096 samples each, end to end in one lent slice of count * capacity samples */
 
+/* A stale buffer reads as zeros, and the next write stores in it; in any other a write adds. */
 typedef struct {
     size_t count;
     size_t capacity;
     bool stale[16];
 } grynnadot_pool;
 
+/* The external buffers are the internal ones of an outer engine, whose record and samples are passed here; what comes back of that record
+ * goes back to the outer engine. Without one: all zero, with no samples. `reset` is the host's to set and to read: the engine only clears
+ * it, in grynnadot_prepare. */
 typedef struct {
     grynnadot_pool internal;
-    grynnadot_pool external; /* the internal buffers of an outer engine, or count 0 */
+    grynnadot_pool external;
     bool reset;
 } grynnadot_pools;
 
@@ -56,22 +78,24 @@ typedef struct {
     grynnadot_pools pools;
 } grynnadot_wrote;
 
-/* A new pool holds zeros, not stale. */
+/* A new pool: fills `samples` with zeros, and no buffer is stale. Refused with 1: the record is then that of an empty pool. */
 grynnadot_made grynnadot_new_pool(size_t count, size_t capacity, double *samples, size_t samples_count);
 
-/* In all that follows `zeros` are as many +0.0 as the internal capacity, and n is the length of the window. */
+/* In all that follows `internal` and `external` are the samples of the two pools, `zeros` as many +0.0 as the internal capacity (they may
+ * be one constant for all calls), and n is the length of the window in samples: from 0 to the capacity. */
 
-/* Before each window: every internal buffer becomes stale. No sample is touched. */
+/* Before each window: every internal buffer becomes stale, and `reset` false. No sample is touched. Refused with 1 or 2. */
 grynnadot_prepared grynnadot_prepare(grynnadot_pools pools, const double *internal, size_t internal_count, const double *external,
                                      size_t external_count, const double *zeros, size_t zeros_count, size_t n);
 
 /* A buffer is a number: twice its index, plus one if external. Whether its first n samples can be read: they are at
- * index * capacity of its pool where it is not stale, and zeros where it is. */
+ * index * capacity of its pool where it is not stale, and zeros where it is. Refused with 1, 2 or 5. */
 grynnadot_verdict grynnadot_check_read(grynnadot_pools pools, const double *internal, size_t internal_count, const double *external,
                                        size_t external_count, const double *zeros, size_t zeros_count, size_t buffer, size_t n);
 
-/* Single writes of n lent values, of one buffer, and of the product of two: stored where the output is stale, added where it is not, each
- * value first times the level, which is 1.0 where has_level is false. */
+/* Single writes of n lent values (another number of them gives 2), of one buffer, and of the product of two: stored where the output is
+ * stale, added where it is not, each value first times the level, which is 1.0 where has_level is false. Samples from n on stay, and the
+ * output is no longer stale. Refused with 1, 2, 5 or 7. */
 grynnadot_wrote grynnadot_read_0_write_1(grynnadot_pools pools, double *internal, size_t internal_count, double *external,
                                          size_t external_count, const double *zeros, size_t zeros_count, size_t output, bool has_level,
                                          double level, size_t n, const double *values, size_t values_count);
@@ -86,33 +110,37 @@ grynnadot_wrote grynnadot_read_2_write_1(grynnadot_pools pools, double *internal
 
 enum { GRYNNADOT_ABSENT, GRYNNADOT_NUMBER, GRYNNADOT_SLOT, GRYNNADOT_WINDOW_SECONDS };
 
-/* A number, a slot of the lent values, the window's seconds, or nothing. */
+/* Nothing, the number, the value in that slot of the lent values, or the window's seconds, by its mark. Only out_level and an oscillator's
+ * phase may be absent: they are then 1.0 and 0.0. */
 typedef struct {
     size_t mark;
     size_t slot;
     double number;
 } grynnadot_parameter;
 
+/* The kinds, each with what its parameters first, second and third are. Each has one input, but for the plain oscillator, which has none,
+ * and the ring modulator, which has two. */
 enum {
     GRYNNADOT_PASS,
     GRYNNADOT_POW3,
-    GRYNNADOT_CLIP,       /* limit */
-    GRYNNADOT_LOW_PASS,   /* cutoff */
-    GRYNNADOT_LOW_PASS_2, /* resonance, quality */
-    GRYNNADOT_HIGH_PASS,
-    GRYNNADOT_HIGH_PASS_2,
-    GRYNNADOT_BAND_PASS, /* center, quality */
-    GRYNNADOT_NOTCH,
+    GRYNNADOT_CLIP,                 /* limit */
+    GRYNNADOT_LOW_PASS,             /* cutoff */
+    GRYNNADOT_LOW_PASS_2,           /* resonance, quality */
+    GRYNNADOT_HIGH_PASS,            /* cutoff */
+    GRYNNADOT_HIGH_PASS_2,          /* resonance, quality */
+    GRYNNADOT_BAND_PASS,            /* center, quality */
+    GRYNNADOT_NOTCH,                /* center, quality */
     GRYNNADOT_ALL_PASS,             /* corner, quality */
-    GRYNNADOT_OSCILLATOR,           /* choice: waveform; frequency, phase */
-    GRYNNADOT_MODULATED_OSCILLATOR, /* and modulation: 0 by phase, 1 by frequency */
-    GRYNNADOT_WAVEGUIDE,            /* choice: 0 positive, 1 negative reflectance; buffer_size; frequency, cutoff, feedback */
-    GRYNNADOT_RING_MODULATOR        /* two inputs */
+    GRYNNADOT_OSCILLATOR,           /* frequency, phase; choice: the waveform */
+    GRYNNADOT_MODULATED_OSCILLATOR, /* frequency, phase; choice: the waveform; modulation: 0 by phase, 1 by frequency */
+    GRYNNADOT_WAVEGUIDE,            /* frequency, cutoff, feedback; choice: 0 positive, 1 negative reflectance; buffer_size to 32,767 */
+    GRYNNADOT_RING_MODULATOR
 };
 
+/* The waveforms. */
 enum { GRYNNADOT_SIN, GRYNNADOT_SIN3, GRYNNADOT_TRIANGLE, GRYNNADOT_SQUARE, GRYNNADOT_SAWTOOTH };
 
-/* What the kind does not have is not looked at. */
+/* Inputs and output are buffers by their numbers. What the kind does not have is not looked at. */
 typedef struct {
     size_t kind;
     size_t choice;
@@ -127,12 +155,13 @@ typedef struct {
     grynnadot_parameter third;
 } grynnadot_stage;
 
+/* Stages from `count` on are not looked at. */
 typedef struct {
     size_t count;
     grynnadot_stage stages[32];
 } grynnadot_patch;
 
-/* ---- what a stage remembers from window to window */
+/* ---- what a stage remembers from window to window: room for every kind, of which a run changes its own kind's part only */
 
 typedef struct {
     struct {
@@ -160,18 +189,20 @@ typedef struct {
     grynnadot_states states;
 } grynnadot_ran;
 
-/* All zero. */
+/* New states: all zero. */
 grynnadot_states grynnadot_new_states(void);
 
-/* A run of n samples, each `width` seconds wide, of the stages that `order` names. `rings` has a ring of buffer_size + 1 samples for each
- * waveguide of the patch, end to end in the order of stage numbers; `values` are what slots stand for. The pools' records and the states
- * that come back are those for the next window. */
+/* A run of n samples, each `width` seconds wide, of the stages that `order` names, in that order: numbers below the patch's count, none of
+ * them twice. `rings` has a ring of buffer_size + 1 samples for each waveguide of the patch, ordered or not, end to end by stage number;
+ * more samples may follow. A ring keeps its string's sound from window to window: zeros are silence. `values` are what slots stand for. The
+ * pools' records and the states that come back are those for the next window. Refused with 22 or 1 to 7, before the first sample. */
 grynnadot_ran grynnadot_run(grynnadot_patch patch, const uint8_t *order, size_t order_count, grynnadot_pools pools,
                             grynnadot_states states, size_t n, double width, double *internal, size_t internal_count, double *external,
                             size_t external_count, const double *zeros, size_t zeros_count, double *rings, size_t rings_count,
                             const double *values, size_t values_count);
 
-/* ---- a ring's position, moved one slot round; refused with 4 where it is not below the length, or the length is over 32,768 */
+/* ---- a position, moved one slot round a ring of that length; refused with 4, and left as it is, where the length is 0 or over 32,768, or
+ * the position is not below it */
 
 grynnadot_verdict grynnadot_advance(size_t *position, size_t length);
 

@@ -1,4 +1,4 @@
--- What a kind of stage is made of beside its output and its out_level, by the kind's number. Assumes nothing.
+-- What a kind of stage is made of beside its output and its out_level, by the kind's number. Definitions only. Assumes nothing.
 use Prim.Native.Nat.{ℕ}
 use mathlib.Core.Bool.{cond}
 use mathlib.Core.List.{List, [], _∷_}
@@ -39,5 +39,6 @@ formOf kind =
       parameters = getD parameters kind 0;
     }
 
+-- there are fourteen kinds
 abbrev pub formedOf : ℕ → Formed
 formedOf kind = cond (ltb kind 14) (formed.Form (formOf kind)) formed.Unknown

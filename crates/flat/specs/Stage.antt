@@ -35,10 +35,11 @@ use Rattle.flat.specs.Form.{formedOf}
 abbrev pub bufferOf : ℕ → BufferIndex
 bufferOf number = cond (eqb (number % 2) 0) (Internal (number / 2)) (External (number / 2))
 
+-- by its mark: absent, the number, the slot, the window's seconds
 unfoldable pub parameterOf : FlatParameter → Parameter
 parameterOf p = getD (Absent ∷ Fixed (p .number) ∷ Slot (p .slot) ∷ []) (p .mark) WindowSeconds
 
--- ---- choices, in source order
+-- ---- choices, as the Rust lists them
 
 unfoldable pub waveformOf : ℕ → OscillatorType
 waveformOf number = getD (Sin ∷ Sin3 ∷ Triangle ∷ Square ∷ []) number Sawtooth
@@ -78,10 +79,11 @@ waveguideOf f =
       reflectance = reflectanceOf (f .choice);
     }
 
--- the stage's filter
+-- a filter on the first input
 abbrev pub filtered : FlatStage → Kind
 filtered f = kind.Filter (bufferOf (f .«first_input»)) (filterOf (f .kind) (parameterOf (f .first)) (parameterOf (f .second)))
 
+-- the kinds by number; after them, RingModulator
 unfoldable pub kinds : FlatStage → List Kind
 kinds f =
     kind.Pass (bufferOf (f .«first_input»))
@@ -104,9 +106,11 @@ kindOf f = getD (kinds f) (f .kind) (kind.RingModulator (bufferOf (f .«first_in
 
 -- ---- which numbers are known
 
+-- one of `limit`, where there is something to choose
 abbrev pub chosenOf : ℕ → ℕ → Bool
 chosenOf limit choice = cond (eqb limit 0) true (ltb choice limit)
 
+-- one of the four marks, where the kind has the parameter
 abbrev pub markedOf : Bool → FlatParameter → Bool
 markedOf has p = cond has (ltb (p .mark) 4) true
 
@@ -123,6 +127,7 @@ knownOf form f =
 abbrev pub stageFrom : FlatStage → Stage
 stageFrom f = record { kind = kindOf f; output = bufferOf (f .output); «out_level» = parameterOf (f .«out_level») }
 
+-- no stage where there is no such kind, or where one of its numbers is not known
 unfoldable pub namedBy : Formed → FlatStage → Named
 namedBy (formed.Form form) f = cond (knownOf form f) (named.Stage (stageFrom f)) named.Unknown
 namedBy formed.Unknown f = named.Unknown

@@ -1,8 +1,9 @@
-// What a kind of stage is made of beside its output and its out_level, by the kind's number:
-// Pass, Pow3, Clip, the seven filters as filter.rs lists them, plain oscillator, modulated oscillator, waveguide, RingModulator.
+// What a kind of stage is made of beside its output and its out_level, by the kind's number. Rests on nothing.
 ghost use mathlib.Core.Path.{_≡_};
 ghost use Rattle.flat.specs.Form.{formedOf};
 
+// The kinds: Pass, Pow3, Clip, the seven filters as filter.rs lists them, plain oscillator, modulated oscillator, waveguide, RingModulator.
+// Each table has an entry to a kind, in that order.
 const KINDS: usize = 14;
 
 const CHOICES: [u8; 14] = [0, 0, 0, 0, 0, 0, 0, 0, 0, 0, 5, 5, 2, 0];
@@ -16,7 +17,7 @@ const INPUTS: [u8; 14] = [1, 1, 1, 1, 1, 1, 1, 1, 1, 1, 0, 1, 1, 2];
 const PARAMETERS: [u8; 14] = [0, 0, 1, 1, 2, 1, 2, 2, 2, 2, 2, 2, 3, 0];
 
 // How many waveforms or reflectances, and how many modulations, there are to choose from: 0 where nothing is chosen.
-// How many sizes, inputs and parameters the kind has.
+// How many sizes, inputs and parameters the kind has; a stream of tests lists no others.
 pub struct Form {
     pub choices: u8,
     pub modulations: u8,
@@ -30,6 +31,7 @@ pub enum Formed {
     Unknown,
 }
 
+// The form of a kind; Unknown where no kind has that number.
 pub fn form_of(kind: usize) -> Formed
     ensures { λ r. ⌜ r ≡ formedOf kind ⌝ }
 {

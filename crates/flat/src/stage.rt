@@ -1,4 +1,4 @@
-// The stage that plain numbers name.
+// The stage that plain numbers name. Rests on `form` for which numbers a kind has; the stages are those of `engine`.
 use crate::form::Form;
 use crate::form::Formed;
 use crate::form::form_of;
@@ -15,7 +15,7 @@ use microwave::waveguide::WaveguideSpec;
 ghost use mathlib.Core.Path.{_≡_};
 ghost use Rattle.flat.specs.Stage.{bufferOf, parameterOf, waveformOf, modulationOf, reflectanceOf, filterOf, oscillatorOf, waveguideOf, kindOf, chosenOf, markedOf, knownOf, namedOf};
 
-// A parameter: 0 absent, 1 the number, 2 the slot, 3 the window's seconds.
+// A parameter, by its mark: 0 absent, 1 the number, 2 the slot, 3 the window's seconds.
 #[repr(C)]
 pub struct FlatParameter {
     pub mark: usize,
@@ -23,7 +23,7 @@ pub struct FlatParameter {
     pub number: f64,
 }
 
-// A stage. A buffer is twice its index, plus one if external. What the kind does not have is not looked at.
+// A stage, its buffers by their numbers. What the kind does not have is not looked at.
 #[repr(C)]
 pub struct FlatStage {
     pub kind: usize,
@@ -44,7 +44,7 @@ pub enum Named {
     Unknown,
 }
 
-// Twice its index, plus one if external.
+// The buffer of a number: twice its index, plus one if external.
 pub fn buffer_of(number: usize) -> BufferIndex
     ensures { λ r. ⌜ r ≡ bufferOf number ⌝ }
 {
@@ -54,6 +54,7 @@ pub fn buffer_of(number: usize) -> BufferIndex
     BufferIndex::External(number / 2)
 }
 
+// Here and in the choices below, the last arm takes each number past the table too: `known` lets none of those through.
 fn parameter_of(p: FlatParameter) -> Parameter
     ensures { λ r. ⌜ r ≡ parameterOf p ⌝ }
 {
@@ -96,7 +97,7 @@ fn reflectance_of(number: usize) -> Reflectance
     }
 }
 
-// The filters are numbered from 3 on.
+// The filters are numbered from 3 on. Of a kind below that the answer is not used.
 fn filter_of(kind: usize, a: Parameter, b: Parameter) -> FilterType
     ensures { λ r. ⌜ r ≡ filterOf kind a b ⌝ }
 {
@@ -157,6 +158,7 @@ fn waveguide_of(flat: FlatStage) -> WaveguideSpec
     }
 }
 
+// The kind with its parts. What several arms share is worked out before them, and the other arms leave it.
 fn kind_of(flat: FlatStage) -> Kind
     ensures { λ r. ⌜ r ≡ kindOf flat ⌝ }
 {
@@ -195,7 +197,7 @@ fn kind_of(flat: FlatStage) -> Kind
     }
 }
 
-// A choice among `limit`, or no choice to make.
+// Whether a choice is one of `limit`. Where there is nothing to choose it is not looked at.
 fn chosen(limit: u8, choice: usize) -> bool
     ensures { λ r. ⌜ r ≡ chosenOf limit choice ⌝ }
 {
@@ -205,7 +207,7 @@ fn chosen(limit: u8, choice: usize) -> bool
     choice < limit as usize
 }
 
-// A mark that says something, or a parameter that the kind does not have.
+// Whether a mark says something. Where the kind does not have the parameter it is not looked at.
 fn marked(has: bool, p: FlatParameter) -> bool
     ensures { λ r. ⌜ r ≡ markedOf has p ⌝ }
 {
@@ -215,7 +217,7 @@ fn marked(has: bool, p: FlatParameter) -> bool
     true
 }
 
-// Kind, choices and marks are all known.
+// Whether the choices and the marks that the kind has are all known.
 fn known(form: Form, flat: FlatStage) -> bool
     ensures { λ r. ⌜ r ≡ knownOf form flat ⌝ }
 {

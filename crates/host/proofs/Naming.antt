@@ -58,13 +58,13 @@ module _ (f : FlatPatch) (looked : ℕ) where
       }
 
   -- a stage that is not known
-  pub naming-stop : (p : Patch) (k : ℕ) (name : Named) → k < looked → Naming f looked p k → name ≡ nameAt f k → name ≡ named.Unknown → k ≡ unknownFrom f looked 0
+  naming-stop : (p : Patch) (k : ℕ) (name : Named) → k < looked → Naming f looked p k → name ≡ nameAt f k → name ≡ named.Unknown → k ≡ unknownFrom f looked 0
   unfolding known
   naming-stop p k name h w e q =
       sym (left k h ∙ ap (λ (n : Named). cond (known n) (unknownFrom f (looked - (k + 1)) (k + 1)) k) (sym e ∙ q)) ∙ w .rest
 
   -- no stage is left
-  pub naming-end : (p : Patch) (k : ℕ) → looked ≤ k → Naming f looked p k → 32 ≡ unknownFrom f looked 0
+  naming-end : (p : Patch) (k : ℕ) → looked ≤ k → Naming f looked p k → 32 ≡ unknownFrom f looked 0
   unfolding unknownFrom
   naming-end p k h w =
       let all : looked - k ≡ 0 = omega arith in

@@ -1,4 +1,4 @@
-// The ring's cursor where the host lends it, as the number that its record holds.
+// The ring's cursor where the host lends it, as the number that its record holds. Rests on `util` for the advance by value.
 use magnetron::check::Verdict;
 use util::delay_line::Cursor;
 ghost use mathlib.Core.Path.{_≡_};

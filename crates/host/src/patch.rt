@@ -1,4 +1,4 @@
-// The patch that plain numbers name.
+// The patch that plain numbers name. Rests on `flat` for each of its stages.
 use engine::stage::Kind;
 use engine::stage::Patch;
 use engine::stage::Stage;

@@ -1,4 +1,5 @@
 // Pools, the check of a single read, and the single writes, with buffers as plain numbers: twice the index, plus one if external.
+// Rests on `magnetron` for the work. A single read is not exported: a slice cannot be handed back, and the host finds the samples by the mark.
 use crate::run::FlatAnswer;
 use crate::run::answer_of;
 use flat::stage::buffer_of;
@@ -36,6 +37,7 @@ fn wrote_of(wrote: Wrote) -> FlatWrote
     }
 }
 
+// A level that may be absent crosses as a number and whether it counts.
 fn level_in(has_level: bool, level: f64) -> OutLevel
     ensures { λ r. ⌜ r ≡ levelIn «has_level» level ⌝ }
 {
@@ -143,7 +145,7 @@ pub extern "C" fn grynnadot_read_0_write_1(
     )
 }
 
-// Writes one buffer's samples into another, or zeros where it is stale.
+// Writes one buffer's samples, or zeros where it is stale, into another. No values are lent: an empty part stands for them.
 #[no_mangle]
 pub extern "C" fn grynnadot_read_1_write_1(
     pools: Pools,
@@ -174,7 +176,7 @@ pub extern "C" fn grynnadot_read_1_write_1(
     )
 }
 
-// Writes the product of two buffers, first times second.
+// Writes the product of two buffers, first times second. No values are lent here either.
 #[no_mangle]
 pub extern "C" fn grynnadot_read_2_write_1(
     pools: Pools,

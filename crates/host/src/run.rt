@@ -1,4 +1,4 @@
-// The run, from a patch of plain numbers.
+// The run, from a patch of plain numbers. Rests on `patch` for the stages that they name, and on `engine` for the run of those.
 use crate::patch::FlatPatch;
 use crate::patch::patch_of;
 use engine::run::Ran;
@@ -17,6 +17,7 @@ pub struct FlatAnswer {
     pub activity: u8,
 }
 
+// What a run answers, with the records for the next one.
 #[repr(C)]
 pub struct FlatRan {
     pub answer: FlatAnswer,
@@ -48,7 +49,7 @@ fn ran_of(ran: Ran) -> FlatRan
     }
 }
 
-// The refusal of a stage whose numbers name none.
+// The refusal of a stage whose numbers name none. 01 has no number for it, since its patch is made of enums; patch files give 22 too.
 fn unknown_ran(stage: usize, pools: Pools, states: States) -> FlatRan
     ensures { λ r. ⌜ r ≡ unknownRan stage pools states ⌝ }
 {

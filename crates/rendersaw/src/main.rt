@@ -47,7 +47,8 @@ fn write_samples(samples: &[f64]) {
     }
 }
 
-// The run, on new pools that were prepared; whether it was accepted.
+// The run, on new pools that were prepared; whether it was accepted. Where a pool or prepare is refused, the run is refused too.
+// The stage has no ring and no slot: what is lent as rings and as values is not looked at.
 fn render(internal: &mut [f64], none: &mut [f64], zeros: &[f64]) -> bool {
     let made = new_pool(1, 8, internal);
     let empty = new_pool(0, 0, none);
@@ -84,6 +85,7 @@ fn render(internal: &mut [f64], none: &mut [f64], zeros: &[f64]) -> bool {
     ran.answer.number == 0
 }
 
+// The lent samples do not begin as zeros: the new pool is to make them so.
 fn main() {
     let mut internal = [1.0; 8];
     let mut none = [0.0; 1];

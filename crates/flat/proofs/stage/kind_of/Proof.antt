@@ -1,7 +1,6 @@
 -- `flat::stage::kind_of` meets its contract: in each arm the kind is known, and so is the entry of the table. Assumes nothing.
 use mathlib.Core.Path.{refl}
 use Rattle.flat.proofs.Filters.{a-filter}
-use mathlib.Core.List.{[], _∷_}
 use lib.ListN.{List·getD-eq-default}
 use Rattle.flat.proofs.Past.{past}
 use Rattle.flat.specs.Stage.{kinds, kindOf}
