@@ -62,7 +62,7 @@ pub struct States {
     pub stages: [State; 32],
 }
 
-#[derive(Clone, Copy, Debug, PartialEq)]
+#[derive(Clone, Copy)]
 #[repr(C)]
 pub struct Answer {
     pub number: usize,

@@ -10,7 +10,7 @@ use crate::stages::RustStage;
 use crate::stages::Stage;
 use crate::stages::WIDTH;
 
-pub const INTERNAL: usize = 16;
+const INTERNAL: usize = 16;
 pub const EXTERNAL: usize = 8;
 
 /// What the external buffers hold: noise up to a magnitude, the same on both sides.
@@ -30,11 +30,11 @@ pub struct Engine {
     pub pools: Pools,
     states: States,
     pub internal: Vec<f64>,
-    pub external: Vec<f64>,
-    pub zeros: Vec<f64>,
+    external: Vec<f64>,
+    zeros: Vec<f64>,
     rings: Vec<f64>,
     values: Vec<f64>,
-    pub n: usize,
+    n: usize,
 }
 
 impl Engine {

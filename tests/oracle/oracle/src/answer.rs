@@ -2,7 +2,7 @@
 
 use magnetron::stage::StageActivity;
 
-use crate::refusals::NO_STAGE;
+use crate::refusals;
 use crate::refusals::Verdict;
 use crate::tally::Tally;
 
@@ -55,10 +55,7 @@ impl Answer {
     /// The number and the stage of an outcome.
     pub fn verdict(&mut self, verdict: Verdict) {
         self.part("number, stage");
-        let (number, stage) = match verdict {
-            Ok(()) => (0, NO_STAGE),
-            Err(refusal) => (refusal.number, refusal.stage),
-        };
+        let [number, stage] = refusals::outcome(verdict);
         self.words.extend([number, stage]);
         self.tally.outcomes[number as usize] += 1;
     }

@@ -1,4 +1,4 @@
-//! A case of any sort.
+//! A case of any sort: how it is read, written, answered, made at random, made smaller and shown.
 
 use std::io::Read;
 

@@ -6,15 +6,13 @@ use std::f64::consts::TAU;
 use std::hint::black_box;
 
 use microwave::magnetron::oscillator::OscillatorType;
-use stand_ins::maximum;
-use stand_ins::minimum;
-use stand_ins::sine_turns;
 
+use crate::answer;
 use crate::case::Case;
 use crate::panics;
 use crate::program::Program;
+use crate::refusals;
 use crate::refusals::NO_STAGE;
-use crate::refusals::Refusal;
 use crate::session::Session;
 use crate::session::Stage;
 use crate::session::kind::Kind;
@@ -25,6 +23,7 @@ use crate::small::lent;
 use crate::small::stage;
 use crate::small::string;
 use crate::small::window;
+use crate::words::words;
 
 /// A session of one window that 01 refuses, and whether the Rust panics there. Where it does not, it goes on.
 struct Difference {
@@ -42,7 +41,7 @@ pub fn run(program: &Program, inputs: bool) -> Result<bool, Box<dyn Error>> {
         }
         as_listed &= difference.show(program)?;
     }
-    show_numbers();
+    as_listed &= show_numbers(program)?;
     println!("the listed differences are {}\n", if as_listed { "as listed" } else { "NOT AS LISTED" });
     Ok(as_listed)
 }
@@ -56,7 +55,7 @@ fn listed() -> Vec<Difference> {
     let long = lent(good_pools([1, 0], [4_097, 0]), vec![square()]);
     let difference = |name, panics, lent: Session, n, order: &[u64]| Difference {
         name,
-        session: Session { windows: vec![window(false, n, order)], ..lent.from_new() },
+        session: Session { windows: vec![window(false, n, order)], ..lent.with_new_states() },
         panics,
     };
     vec![
@@ -74,28 +73,54 @@ impl Difference {
     fn show(self, program: &Program) -> Result<bool, Box<dyn Error>> {
         let Self { name, session, panics } = self;
         let (window, samples) = (&session.windows[0], &session.pools.internal.samples);
-        let table = session.judge(window).err().unwrap_or(Refusal { number: 0, stage: NO_STAGE });
+        let [number, stage] = refusals::outcome(session.judge(window));
         let (place, pools) = session.run_unchecked(window);
-        let (said, ()) = program.ask(&Case::Session(session.clone()).bytes(), || ())?;
-        let unchanged = samples.iter().map(|sample| sample.to_bits());
-        let refused = [table.number, table.stage, 0].into_iter().chain(unchanged);
-        let as_listed = panics == place.is_some() && said.words().take(3 + samples.len()).eq(refused);
-
         let [before, after] = [samples, &pools.internal.samples].map(|samples| show::numbers(samples));
-        println!("{name}: 01 and the program {}, stage {}", table.number, table.stage);
+        println!("{name}: 01 and the program {number}, stage {stage}");
         println!("  the Rust {}; of the internal samples {before} it leaves {after}", panics::doing(&place));
-        if !as_listed {
-            println!("  NOT AS LISTED: the program answers {:?}", said.words().take(3).collect::<Vec<_>>());
-        }
-        Ok(as_listed)
+        let unchanged = samples.iter().map(|sample| sample.to_bits());
+        let refused: Vec<u64> = [number, stage, 0].into_iter().chain(unchanged).collect();
+        Ok(answers(program, &Case::Session(session.clone()), &refused)? && panics == place.is_some())
     }
 }
 
-/// The differences in numbers. The oracle's Rust does not have them: it was given 01's functions.
-fn show_numbers() {
+/// The differences in numbers: a case of the format, 01's answer, and what the platform's function gives. The oracle's Rust
+/// does not have them: it was given 01's functions.
+fn show_numbers(program: &Program) -> Result<bool, Box<dyn Error>> {
     let [zero, minus, turn] = [0.0, -0.0, 0.2].map(black_box);
-    println!("maximum(-0.0, 0.0): 01 {:?}, the Rust here {:?}", maximum(minus, zero), minus.max(zero));
-    println!("minimum(0.0, -0.0): 01 {:?}, the Rust here {:?}", minimum(zero, minus), zero.min(minus));
-    let (ours, theirs) = (sine_turns(turn), (TAU * turn).sin());
-    println!("sine of {turn} turns: 01 {:016x}, the Rust here {:016x}", ours.to_bits(), theirs.to_bits());
+    let sine = f64::from_bits(0x3fee_6f0e_1344_5500);
+    let numbers = [
+        ("maximum(-0.0, 0.0)", words![2, 0, 1, minus, zero], -0.0, minus.max(zero)),
+        ("minimum(0.0, -0.0)", words![2, 1, 1, zero, minus], 0.0, zero.min(minus)),
+        ("sine of 0.2 turns", words![2, 11, 1, turn], sine, (TAU * turn).sin()),
+    ];
+    let mut as_listed = true;
+    for (name, words, answer, platform) in numbers {
+        let case = Case::of_words(&words).ok_or("a case that can't be read")?;
+        as_listed &= answers(program, &case, &[answer.to_bits()])?;
+        let [ours, theirs] = [answer, platform].map(f64::to_bits);
+        println!("{name}: 01 {ours:016x} ({answer:?}), the Rust here {theirs:016x} ({platform:?})");
+    }
+    println!("a lent phase of 7, Sin: 01 NaN, the Rust can't be lent one");
+    let nan = [0, NO_STAGE, 1, answer::bits(f64::NAN)];
+    Ok(answers(program, &Case::Session(phase_of_seven()), &nan)? && as_listed)
+}
+
+fn phase_of_seven() -> Session {
+    let sine = stage(&Kind::Oscillator(OscillatorType::Sin), &[], internal(0));
+    let mut session = lent(good_pools([1, 0], [1, 0]), vec![sine]).with_new_states();
+    session.states[0].numbers[0] = 7.0;
+    session.windows = vec![window(false, 1, &[0])];
+    session
+}
+
+/// Whether the program's answer begins with these words.
+fn answers(program: &Program, case: &Case, words: &[u64]) -> Result<bool, Box<dyn Error>> {
+    let (said, ()) = program.ask(&case.bytes(), || ())?;
+    let begins: Vec<u64> = said.words().take(words.len()).collect();
+    if begins != words {
+        let begins = &begins[..begins.len().min(4)];
+        println!("  NOT AS LISTED: the program answers {begins:x?} .. to\n{}", case.show());
+    }
+    Ok(begins == words)
 }

@@ -5,6 +5,7 @@ mod case;
 mod compare;
 mod differences;
 mod laid;
+mod lengths;
 mod listed;
 mod measure;
 mod options;

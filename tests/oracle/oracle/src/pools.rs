@@ -3,16 +3,15 @@
 use magnetron::buffer::BufferIndex;
 
 use crate::answer::Answer;
+use crate::lengths::MOST_SAMPLES;
+use crate::lengths::MOST_ZEROS;
 use crate::words::Pass;
 use crate::words::Passed;
+use crate::words::Stop;
 use crate::words::Tape;
 
 /// How many buffers of a pool the marks have room for.
 pub const ROOM: usize = 16;
-
-/// What a slice's length may be at the most: samples of each pool, and zeros.
-pub const MOST_SAMPLES: u64 = 65_536;
-pub const MOST_ZEROS: u64 = 8_192;
 
 #[derive(Clone, Copy, Debug, Default, PartialEq)]
 pub struct Buffer {
@@ -92,7 +91,7 @@ impl Pools {
     }
 
     /// The lengths of the three slices, which come before their contents.
-    pub fn pass_lengths(&mut self, tape: &mut dyn Tape) -> Result<[u64; 3], crate::words::Stop> {
+    pub fn pass_lengths(&mut self, tape: &mut dyn Tape) -> Result<[u64; 3], Stop> {
         let slices = [&self.internal.samples, &self.external.samples, &self.zeros];
         let mut lengths = slices.map(|slice| slice.len() as u64);
         for (length, most) in lengths.iter_mut().zip([MOST_SAMPLES, MOST_SAMPLES, MOST_ZEROS]) {

@@ -1,8 +1,8 @@
 //! Random pools, windows and buffers, such as pass the checks; and such as do not.
 
+use crate::lengths::MOST_SAMPLES;
+use crate::lengths::MOST_ZEROS;
 use crate::pools::Buffer;
-use crate::pools::MOST_SAMPLES;
-use crate::pools::MOST_ZEROS;
 use crate::pools::Pool;
 use crate::pools::Pools;
 use crate::values::Role;

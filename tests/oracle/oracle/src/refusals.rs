@@ -26,6 +26,11 @@ pub struct Refusal {
 
 pub type Verdict = Result<(), Refusal>;
 
+/// The number and the stage that answer a verdict: 0 and 32 where nothing is refused.
+pub fn outcome(verdict: Verdict) -> [u64; 2] {
+    verdict.map_or_else(|refusal| [refusal.number, refusal.stage], |()| [0, NO_STAGE])
+}
+
 fn unless(good: bool, number: u64) -> Verdict {
     unless_at(good, number, NO_STAGE)
 }

@@ -1,4 +1,4 @@
-//! The table of refusals over all small cases: the program's answers against the second reading, and against the Rust, which
+//! The table of refusals over the small cases: the program's answers against the second reading, and against the Rust, which
 //! goes through where something is accepted, and panics where 5 or 7 refuses it.
 
 use std::error::Error;
@@ -7,6 +7,7 @@ use crate::case::Case;
 use crate::compare::Compare;
 use crate::compare::Report;
 use crate::panics;
+use crate::refusals;
 use crate::session::Session;
 use crate::session::Window;
 use crate::session::parameter::Parameter;
@@ -18,7 +19,7 @@ type Numbers = [u64; 8];
 /// Whether all is as document 01's table says. For one sort of cases the program alone is asked.
 pub fn run(compare: &Compare, sort: Option<u64>) -> Result<bool, Box<dyn Error>> {
     let mut columns = Vec::new();
-    for (name, sorts, cases) in families() {
+    for Family { name, sorts, cases } in FAMILIES {
         if sort.is_some_and(|sort| !sorts.contains(&sort)) {
             continue;
         }
@@ -50,17 +51,19 @@ fn print_table(columns: &[(&str, Numbers)]) {
     println!();
 }
 
-type Cases = Box<dyn Iterator<Item = Case>>;
-
-/// The small cases: what they are about, their sorts, and the cases.
-fn families() -> [(&'static str, &'static [u64], fn() -> Cases); 4] {
-    [
-        ("runs", &[1], || Box::new(small::sessions().map(Case::Session))),
-        ("reads, writes", &[8], || Box::new(small::parts::singles())),
-        ("prepare", &[9], || Box::new(small::parts::prepares())),
-        ("over a ring", &[3, 6, 7], || Box::new(small::parts::rings())),
-    ]
+/// Small cases of one or several sorts, which have a column of the table.
+struct Family {
+    name: &'static str,
+    sorts: &'static [u64],
+    cases: fn() -> Box<dyn Iterator<Item = Case>>,
 }
+
+const FAMILIES: [Family; 4] = [
+    Family { name: "runs", sorts: &[1], cases: || Box::new(small::sessions().map(Case::Session)) },
+    Family { name: "reads, writes", sorts: &[8], cases: || Box::new(small::parts::singles()) },
+    Family { name: "prepare", sorts: &[9], cases: || Box::new(small::parts::prepares()) },
+    Family { name: "over a ring", sorts: &[3, 6, 7], cases: || Box::new(small::parts::rings()) },
+];
 
 /// Has the Rust do all runs, reads and writes that tell something, and counts at how many it panics. Nothing where it does
 /// otherwise than expected.
@@ -99,7 +102,7 @@ fn expect(number: u64, place: Option<String>, counts: &mut [Numbers; 2], show: i
 /// What the table says to a window, and where the Rust panics. It is not asked where 1 to 4 refuse the window, since it has no
 /// such pools, orders or rings, nor where 6 does, since it has no such parameters.
 fn attempt(session: &Session, window: &Window) -> Option<(u64, Option<String>)> {
-    let number = session.judge(window).err().map_or(0, |refusal| refusal.number);
+    let [number, _] = refusals::outcome(session.judge(window));
     let attempt = || with_parameters(session, window.values.len() as u64).run_unchecked(window).0;
     matches!(number, 0 | 5 | 7).then(|| (number, attempt()))
 }

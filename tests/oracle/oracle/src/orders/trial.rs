@@ -10,7 +10,7 @@ use crate::values::Role;
 use crate::values::Values;
 
 /// Sessions with more ring cells are left out: they would be shown in every window.
-const MOST_CELLS: usize = 2_000;
+const MOST_SHOWN: usize = 2_000;
 
 pub struct Trial {
     pub session: Session,
@@ -35,7 +35,7 @@ impl Trial {
         let mut values = Values::new(&[seed, u64::from(u32::MAX), number]);
         let refused = number % REFUSED == REFUSED - 1;
         let mut session = Session::random(&mut values, refused);
-        while session.rings.len() > MOST_CELLS || session.windows.iter().all(|window| window.order.len() < 2) {
+        while session.rings.len() > MOST_SHOWN || session.windows.iter().all(|window| window.order.len() < 2) {
             session = Session::random(&mut values, refused);
         }
         start_anywhere(&mut values, &mut session);

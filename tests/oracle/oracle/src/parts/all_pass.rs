@@ -46,12 +46,4 @@ impl over_ring::Settings for Settings {
     fn random(values: &mut Values) -> Self {
         Self { feedback: values.number(Role::Feedback) }
     }
-
-    fn operation(values: &mut Values) -> Operation {
-        Operation::random(values)
-    }
-
-    fn name(operation: &Operation) -> &'static str {
-        operation.name()
-    }
 }

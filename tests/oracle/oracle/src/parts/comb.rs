@@ -150,12 +150,4 @@ impl over_ring::Settings for Settings {
         };
         Self { response, limit }
     }
-
-    fn operation(values: &mut Values) -> Operation {
-        Operation::random(values)
-    }
-
-    fn name(operation: &Operation) -> &'static str {
-        operation.name()
-    }
 }

@@ -10,7 +10,7 @@ use crate::answer::Answer;
 use crate::answer::Answered;
 use crate::answer::bits;
 use crate::case::Sort;
-use crate::pools::MOST_SAMPLES;
+use crate::lengths::MOST_SAMPLES;
 use crate::shrink::fewer;
 use crate::values::Role;
 use crate::values::Values;

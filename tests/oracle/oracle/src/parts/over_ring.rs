@@ -7,6 +7,7 @@ use microwave::magnetron::util::DelayLine;
 use crate::answer::Answer;
 use crate::answer::Answered;
 use crate::case::Sort;
+use crate::lengths::MOST_CELLS;
 use crate::refusals;
 use crate::shrink::fewer;
 use crate::values::Role;
@@ -15,7 +16,12 @@ use crate::words::Pass;
 use crate::words::Passed;
 use crate::words::Tape;
 
-const MOST_CELLS: u64 = 131_072;
+/// What a machine over a ring is asked.
+pub trait Operation: Clone + Debug + Default + Pass {
+    fn random(values: &mut Values) -> Self;
+
+    fn name(&self) -> &'static str;
+}
 
 /// What works on a ring, one operation at a time.
 pub trait Machine<Operation> {
@@ -33,7 +39,7 @@ pub trait Machine<Operation> {
 /// How a machine is set up.
 pub trait Settings: Clone + Debug + Default + Pass + 'static {
     const NAME: &'static str;
-    type Operation: Clone + Debug + Default + Pass;
+    type Operation: Operation;
 
     fn machine(&self, line: DelayLine) -> Box<dyn Machine<Self::Operation>>;
 
@@ -43,11 +49,6 @@ pub trait Settings: Clone + Debug + Default + Pass + 'static {
     }
 
     fn random(values: &mut Values) -> Self;
-
-    /// An operation, and its name.
-    fn operation(values: &mut Values) -> Self::Operation;
-
-    fn name(operation: &Self::Operation) -> &'static str;
 }
 
 #[derive(Clone, Debug, Default)]
@@ -93,7 +94,7 @@ impl<S: Settings> Sort for OverRing<S> {
             answer.verdict(verdict);
             let sample = machine.as_mut().map_or(0.0, |machine| machine.step(operation));
             answer.samples("sample", &[sample]);
-            let circumstance = if verdict.is_ok() { S::name(operation) } else { "refused" };
+            let circumstance = if verdict.is_ok() { operation.name() } else { "refused" };
             answer.tally.meet(S::NAME, circumstance);
         }
         let memory = machine.as_mut().map_or_else(|| self.settings.memory(), |machine| machine.memory());
@@ -111,7 +112,7 @@ impl<S: Settings> Sort for OverRing<S> {
         values.ring = length.max(1);
         let cells = values.numbers(Role::Sample, length);
         let settings = S::random(values);
-        let operations = (0..values.random.below(60)).map(|_| S::operation(values)).collect();
+        let operations = (0..values.random.below(60)).map(|_| S::Operation::random(values)).collect();
         Self { position, cells, settings, operations }
     }
 

@@ -79,8 +79,10 @@ impl over_ring::Settings for Bare {
     fn random(_values: &mut Values) -> Self {
         Self
     }
+}
 
-    fn operation(values: &mut Values) -> Operation {
+impl over_ring::Operation for Operation {
+    fn random(values: &mut Values) -> Self {
         match values.random.below(64) {
             0 => Operation::Mute,
             1..8 => Operation::AdvanceLent,
@@ -91,8 +93,8 @@ impl over_ring::Settings for Bare {
         }
     }
 
-    fn name(operation: &Operation) -> &'static str {
-        match operation {
+    fn name(&self) -> &'static str {
+        match self {
             Operation::Advance => "advance",
             Operation::AdvanceLent => "advance lent",
             Operation::Write(_) => "write",

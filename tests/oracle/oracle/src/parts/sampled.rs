@@ -1,5 +1,6 @@
 //! What the comb and the all-pass are asked: a sample at the whole delay, a sample at a fraction of it, silence.
 
+use super::over_ring;
 use crate::values::Role;
 use crate::values::Values;
 use crate::words::Pass;
@@ -31,8 +32,8 @@ impl Pass for Operation {
     }
 }
 
-impl Operation {
-    pub fn random(values: &mut Values) -> Self {
+impl over_ring::Operation for Operation {
+    fn random(values: &mut Values) -> Self {
         let input = values.number(Role::Sample);
         match values.random.below(40) {
             0 => Operation::Mute,
@@ -41,6 +42,16 @@ impl Operation {
         }
     }
 
+    fn name(&self) -> &'static str {
+        match self {
+            Operation::ProcessSample(_) => "process_sample",
+            Operation::ProcessSampleFract(..) => "process_sample_fract",
+            Operation::Mute => "mute",
+        }
+    }
+}
+
+impl Operation {
     /// Performs it by the three methods that the comb and the all-pass both have.
     pub fn perform<M>(
         &self,
@@ -56,14 +67,6 @@ impl Operation {
                 mute(machine);
                 0.0
             }
-        }
-    }
-
-    pub fn name(&self) -> &'static str {
-        match self {
-            Operation::ProcessSample(_) => "process_sample",
-            Operation::ProcessSampleFract(..) => "process_sample_fract",
-            Operation::Mute => "mute",
         }
     }
 }

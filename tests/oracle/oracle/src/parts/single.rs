@@ -7,9 +7,9 @@ use crate::answer::Answered;
 use crate::case::Sort;
 use crate::laid::Begin;
 use crate::laid::Laid;
+use crate::lengths::MOST_ZEROS;
 use crate::panics;
 use crate::pools::Buffer;
-use crate::pools::MOST_ZEROS;
 use crate::pools::Pools;
 use crate::random_pools;
 use crate::refusals;
@@ -158,7 +158,7 @@ impl Single {
     /// the table's number, and where the Rust panics.
     pub fn attempts(&self) -> impl Iterator<Item = (u64, Option<String>)> {
         self.operations.iter().filter_map(|operation| {
-            let number = operation.verdict(&self.pools).err().map_or(0, |refusal| refusal.number);
+            let [number, _] = refusals::outcome(operation.verdict(&self.pools));
             let attempt = || drop(operation.perform(&mut self.pools.clone()));
             matches!(number, 0 | 5 | 7).then(|| (number, panics::place(attempt)))
         })

@@ -1,13 +1,13 @@
 //! Faults for a good session, so that some of its windows are refused: one to three, so that the order of the checks shows too.
 
-use super::MOST_ORDER;
-use super::MOST_RINGS;
 use super::Session;
 use super::Stage;
 use super::cells;
 use super::fits;
 use super::kind::Kind;
 use super::parameter::Parameter;
+use crate::lengths::MOST_CELLS;
+use crate::lengths::MOST_ORDER;
 use crate::random_pools;
 use crate::refusals;
 use crate::values::Role;
@@ -84,7 +84,7 @@ fn rings(values: &mut Values, session: &mut Session) {
         }
     }
     let needed = cells(&session.stages);
-    if needed <= MOST_RINGS {
+    if needed <= MOST_CELLS {
         session.rings.resize((needed - u64::from(fault == 2)) as usize, 0.0);
     }
 }

@@ -19,6 +19,9 @@ use parameter::Parameter;
 use crate::answer::Answer;
 use crate::answer::Answered;
 use crate::case::Sort;
+use crate::lengths::MOST_CELLS;
+use crate::lengths::MOST_ORDER;
+use crate::lengths::MOST_VALUES;
 use crate::pools::Buffer;
 use crate::pools::Pool;
 use crate::pools::Pools;
@@ -29,10 +32,6 @@ use crate::words::Pass;
 use crate::words::Passed;
 use crate::words::Stop;
 use crate::words::Tape;
-
-const MOST_VALUES: u64 = 64;
-const MOST_RINGS: u64 = 131_072;
-const MOST_ORDER: u64 = 64;
 
 #[derive(Clone, Debug, Default)]
 pub struct Session {
@@ -91,7 +90,7 @@ impl Pass for Session {
         let lengths = self.pools.pass_lengths(tape)?;
         let (mut values, mut rings) = (self.values.len() as u64, self.rings.len() as u64);
         tape.at_most(&mut values, MOST_VALUES)?;
-        tape.at_most(&mut rings, MOST_RINGS)?;
+        tape.at_most(&mut rings, MOST_CELLS)?;
 
         tape.word(&mut self.stage_count)?;
         tape.items(&mut self.stages, self.stage_count.min(MOST_STAGES), Stage::pass)?;
@@ -162,8 +161,8 @@ impl Window {
 }
 
 impl Session {
-    /// The same from new states and rings, as the Rust begins.
-    pub fn from_new(self) -> Self {
+    /// The same with states and rings at zero, as the Rust begins.
+    pub fn with_new_states(self) -> Self {
         Self { states: vec![State::default(); self.states.len()], rings: vec![0.0; self.rings.len()], ..self }
     }
 

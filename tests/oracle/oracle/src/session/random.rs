@@ -3,8 +3,6 @@
 
 use std::mem;
 
-use super::MOST_RINGS;
-use super::MOST_VALUES;
 use super::Session;
 use super::Setting;
 use super::Stage;
@@ -16,6 +14,8 @@ use super::kind;
 use super::kind::KINDS;
 use super::kind::Kind;
 use super::parameter::Parameter;
+use crate::lengths::MOST_CELLS;
+use crate::lengths::MOST_VALUES;
 use crate::pools::Buffer;
 use crate::pools::Pools;
 use crate::random_pools;
@@ -53,7 +53,7 @@ pub fn session(values: &mut Values, refused: bool) -> Session {
     };
     let mut stages: Vec<_> = (0..stage_count).map(|_| stage(values, &pools, &slots)).collect();
     let spare = values.random.pick(&[0, 0, 1, 7]);
-    if cells(&stages) + spare > MOST_RINGS {
+    if cells(&stages) + spare > MOST_CELLS {
         stages.retain(|stage| stage.kind.buffer_size().is_none());
     }
     let mut session = Session {

@@ -69,7 +69,7 @@ impl Session {
         Ok(())
     }
 
-    /// States and rings as they were lent: they are only shown where no window was run.
+    /// States and rings as they were lent: they are only shown where no window runs a stage.
     fn answer_states(&self, answer: &mut Answer) {
         for state in &self.states {
             answer.samples("states", &state.numbers);
@@ -78,10 +78,15 @@ impl Session {
         answer.samples("rings", &self.rings);
     }
 
-    fn is_new(&self) -> bool {
+    /// Whether the Rust can run the session's stages: their states and rings begin at zero there, and stay in closures.
+    fn can_be_run(&self) -> Answered {
         let zero = |number: &f64| number.to_bits() == 0;
-        self.rings.iter().all(zero)
-            && self.states.iter().all(|state| state.position == 0 && state.numbers.iter().all(zero))
+        let new = self.states.iter().all(|state| state.position == 0 && state.numbers.iter().all(zero));
+        match (self.with_states, new && self.rings.iter().all(zero)) {
+            (true, _) => Err(Unanswerable("the Rust keeps states and rings to itself")),
+            (_, false) => Err(Unanswerable("the Rust's states and rings begin at zero")),
+            _ => Ok(()),
+        }
     }
 }
 
@@ -120,11 +125,8 @@ impl Host<'_> {
             return Ok((Err(refusal), StageActivity::Exhausted));
         }
         coverage::meet_run(self.session, &self.pools, window, &mut answer.tally);
-        if self.session.with_states {
-            return Err(Unanswerable("the Rust keeps states and rings to itself"));
-        }
-        if !self.session.is_new() {
-            return Err(Unanswerable("the Rust's states and rings begin at zero"));
+        if !window.order.is_empty() {
+            self.session.can_be_run()?;
         }
         Ok((Ok(()), self.run(window)))
     }

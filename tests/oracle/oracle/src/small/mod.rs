@@ -1,5 +1,5 @@
-//! Small sessions, all of them, for the table of refusals: counts and capacities from 0 to 2, windows from 0 to 3, orders up
-//! to length 3, each kind of stage, and what stands at the bounds and just past them.
+//! Small cases for the table of refusals: pools of up to two buffers and samples, orders of up to three stages, each kind of
+//! stage, and what stands at the bounds. tests/oracle/README.md has a table of what is enumerated.
 
 mod bounds;
 mod orders;
@@ -24,7 +24,7 @@ use crate::session::kind::KINDS;
 use crate::session::kind::Kind;
 use crate::session::parameter::Parameter;
 
-/// Each session has windows that are all refused, or one window that is accepted.
+/// All small sessions. Each has one window that runs stages, or windows of which none does.
 pub fn sessions() -> impl Iterator<Item = Session> {
     let groups = pools::groups().chain(stages::groups()).chain(parameters::groups()).chain(orders::groups());
     groups.chain(bounds::groups()).flat_map(Group::sessions)
@@ -37,18 +37,18 @@ struct Group {
 }
 
 impl Group {
-    /// A refusal changes nothing but what prepare did, so that all refused windows stand in one session, the prepared ones
-    /// last. There, states and rings are shown. An accepted window has a session of its own, which begins with new states, as
-    /// the Rust does.
+    /// A window that is refused, or has an empty order, changes nothing but what prepare does: all such windows stand in one
+    /// session, the prepared ones last, and its states and rings are shown. A window that runs stages has a session of its
+    /// own, which begins with new states, as the Rust does.
     fn sessions(self) -> Vec<Session> {
         let Self { lent, windows } = self;
-        let (accepted, mut refused): (Vec<_>, Vec<_>) =
-            windows.into_iter().partition(|window| lent.judge(window).is_ok());
-        refused.sort_by_key(|window| window.prepare);
-        let new = |window| Session { windows: vec![window], ..lent.clone().from_new() };
-        let mut sessions: Vec<_> = accepted.into_iter().map(new).collect();
-        if !refused.is_empty() {
-            sessions.push(Session { with_states: true, windows: refused, ..lent });
+        let runs = |window: &Window| !window.order.is_empty() && lent.judge(window).is_ok();
+        let (running, mut still): (Vec<_>, Vec<_>) = windows.into_iter().partition(runs);
+        still.sort_by_key(|window| window.prepare);
+        let new = |window| Session { windows: vec![window], ..lent.clone().with_new_states() };
+        let mut sessions: Vec<_> = running.into_iter().map(new).collect();
+        if !still.is_empty() {
+            sessions.push(Session { with_states: true, windows: still, ..lent });
         }
         sessions
     }
@@ -64,8 +64,8 @@ pub fn good_pools(counts: [u64; 2], capacities: [u64; 2]) -> Pools {
     Pools { internal, external, zeros: vec![0.0; capacities[0] as usize], marks: Default::default() }
 }
 
-/// A session that lends as many ring cells as its stages need, and no values. All of it holds numbers; a string stands at the
-/// last slot of its ring, and other stages' positions are none.
+/// A session that lends as many ring cells as its stages need, and no values. States and rings hold numbers; a string stands
+/// at the last slot of its ring, and the other stages' positions, at which nobody looks, are in no ring.
 pub fn lent(pools: Pools, stages: Vec<Stage>) -> Session {
     let states = (0..MOST_STAGES as usize).map(|number| State {
         numbers: std::array::from_fn(|place| (number * 16 + place) as f64 - 0.125),
@@ -129,21 +129,4 @@ fn all_marks(pools: Pools) -> impl Iterator<Item = Pools> {
         }
         pools
     })
-}
-
-#[cfg(test)]
-mod tests {
-    use super::*;
-
-    /// The numbers that the table gives to a group's windows.
-    fn numbers(group: Group) -> String {
-        let number = |window: &Window| group.lent.judge(window).err().map_or(0, |refusal| refusal.number);
-        group.windows.iter().map(|window| number(window).to_string()).collect()
-    }
-
-    #[test]
-    fn bounds_are_accepted_and_what_is_past_them_is_refused() {
-        let met: Vec<_> = bounds::groups().map(numbers).collect();
-        assert_eq!(met.join(" "), "0002 1111 0002 1111 0002 1111 1111 1111 1111 0 4 00 11 11 00330333");
-    }
 }

@@ -1,5 +1,5 @@
 //! Each kind of stage with every choice of parameters: absent, fixed, the first and the last lent value, the slot past it, the
-//! largest slot, the window's seconds; with 0 to 2 values lent.
+//! largest slot, the window's seconds; with 0 to 2 values lent, and with as many as the format has.
 
 use super::Group;
 use super::each_kind;
@@ -8,13 +8,16 @@ use super::internal;
 use super::lent;
 use super::stage;
 use super::window;
+use crate::lengths::MOST_VALUES;
 use crate::session::Stage;
 use crate::session::Window;
 use crate::session::kind::Kind;
 use crate::session::parameter::Parameter;
 
 pub fn groups() -> impl Iterator<Item = Group> {
-    (0..3).flat_map(|values| each_kind(values).into_iter().flat_map(move |kind| of_kind(kind, values)))
+    [0, 1, 2, MOST_VALUES as usize]
+        .into_iter()
+        .flat_map(|values| each_kind(values).into_iter().flat_map(move |kind| of_kind(kind, values)))
 }
 
 fn of_kind(kind: Kind, values: usize) -> impl Iterator<Item = Group> {
