@@ -17,8 +17,7 @@ use Rattle.util.specs.declared.delay_line.Cursor.{Cursor}
 use Rattle.util.specs.declared.soft_clip.SoftClip.{SoftClip}
 use Rattle.util.specs.declared.low_pass.OnePoleLowPass.{OnePoleLowPass}
 use Rattle.util.specs.declared.interaction.LowPassGain.{LowPassGain}
-use Rattle.util.specs.declared.interaction.Response.{Response}
-use Rattle.util.specs.declared.interaction.Limit.{Limit}
+use Rattle.util.specs.declared.interaction.AnyInteraction.{AnyInteraction}
 use Rattle.util.specs.DelayLine.{advanced}
 use Rattle.util.specs.Interaction.{Step}
 use Rattle.util.specs.Comb.{Comb}
@@ -42,12 +41,9 @@ use Rattle.util.proofs.low_pass.OnePoleLowPass.mute.Reads as low-pass-m
 use Rattle.util.proofs.interaction.LowPassGain.process_sample.Reads as low-pass-gain
 use Rattle.util.proofs.interaction.LowPassGain.delay_samples.Reads as low-pass-gain-delay
 use Rattle.util.proofs.interaction.LowPassGain.mute.Reads as low-pass-gain-mute
-use Rattle.util.proofs.interaction.Response.process_sample.Reads as response
-use Rattle.util.proofs.interaction.Response.delay_samples.Reads as response-delay
-use Rattle.util.proofs.interaction.Response.mute.Reads as response-mute
-use Rattle.util.proofs.interaction.Limit.process_sample.Reads as limit
-use Rattle.util.proofs.interaction.Limit.delay_samples.Reads as limit-delay
-use Rattle.util.proofs.interaction.Limit.mute.Reads as limit-mute
+use Rattle.util.proofs.interaction.AnyInteraction.process_sample.Reads as any
+use Rattle.util.proofs.interaction.AnyInteraction.delay_samples.Reads as any-delay
+use Rattle.util.proofs.interaction.AnyInteraction.mute.Reads as any-mute
 use Rattle.util.proofs.comb_filter.CombFilter.process_sample.Reads as comb
 use Rattle.util.proofs.comb_filter.CombFilter.process_sample_fract.Reads as comb-fract
 use Rattle.util.proofs.comb_filter.CombFilter.mute.Reads as comb-mute
@@ -90,16 +86,13 @@ low-pass-determined = (
   by-definition,
 )
 
-pub interaction-determined : Answer low-pass-gain.Post × Answer low-pass-gain-delay.Post × Answer low-pass-gain-mute.Post × Answer response.Post
-    × Answer response-delay.Post × Answer response-mute.Post × Answer limit.Post × Answer limit-delay.Post × Answer limit-mute.Post
+pub interaction-determined : Answer low-pass-gain.Post × Answer low-pass-gain-delay.Post × Answer low-pass-gain-mute.Post
+    × Answer any.Post × Answer any-delay.Post × Answer any-mute.Post
 interaction-determined = (
   as-follows (λ κs a r s p. ap (λ (t : Step LowPassGain). record { next = t .next; sample = t .sample }) p),
   by-definition,
   by-definition,
-  as-follows (λ κs a r s p. ap (λ (t : Step Response). record { response = t .next; sample = t .sample }) p),
-  by-definition,
-  by-definition,
-  as-follows (λ κs a r s p. ap (λ (t : Step Limit). record { limit = t .next; sample = t .sample }) p),
+  as-follows (λ κs a r s p. ap (λ (t : Step AnyInteraction). record { next = t .next; sample = t .sample }) p),
   by-definition,
   by-definition,
 )

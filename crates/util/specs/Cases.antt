@@ -7,8 +7,7 @@ use lib.ListN.{replicate}
 use lib.Ieee.{Float}
 use Rattle.numbers.specs.Constants.{zero64}
 use Rattle.util.specs.declared.delay_line.Cursor.{Cursor}
-use Rattle.util.specs.declared.interaction.Response.the-variants.{Gain as Response·Gain}
-use Rattle.util.specs.declared.interaction.Limit.the-variants.{Gain as Limit·Gain}
+use Rattle.util.specs.declared.interaction.AnyInteraction.the-variants.{Gain}
 use Rattle.util.specs.declared.comb_filter.CombFilter.{CombFilter}
 use Rattle.util.specs.declared.all_pass.AllPassDelay.{AllPassDelay}
 use Rattle.util.specs.DelayLine.{delayed, delayedFract, done, heard}
@@ -53,4 +52,4 @@ unfoldable pub Holds : Case → Type 0
 Holds (ring-read ring position f sample) = heard (delayedFract f) (at position) ring ≡ record { verdict = done; sample = sample }
 Holds (all-pass-run n g xs ys) = answers allPassStep (record { filter = record { cursor = at 0; feedback = g }; ring = replicate n zero64 }) xs ≡ ys
 Holds (comb-run n response limit xs ys) =
-    answers combStep (record { filter = record { cursor = at 0; response = Response·Gain response; limit = Limit·Gain limit }; ring = replicate n zero64 }) xs ≡ ys
+    answers combStep (record { filter = record { cursor = at 0; response = Gain response; limit = Gain limit }; ring = replicate n zero64 }) xs ≡ ys

@@ -9,14 +9,13 @@ use Rattle.numbers.specs.Outcome.{Outcome, outcome}
 use Rattle.util.specs.declared.delay_line.Delay.{Delay}
 use Rattle.util.specs.declared.soft_clip.SoftClip.{SoftClip}
 use Rattle.util.specs.declared.interaction.LowPassGain.{LowPassGain}
-use Rattle.util.specs.declared.interaction.Response.{Response}
-use Rattle.util.specs.declared.interaction.Limit.{Limit}
+use Rattle.util.specs.declared.interaction.AnyInteraction.{AnyInteraction}
 use Rattle.util.specs.declared.comb_filter.CombFilter.{CombFilter}
 use Rattle.util.specs.declared.comb_filter.Combed.{Combed}
 use Rattle.util.specs.declared.comb_filter.Muted.{Muted}
 use Rattle.util.specs.declared.comb_filter.TunedComb.{TunedComb}
 use Rattle.util.specs.DelayLine.{nextSlot, Reading, delayedBy, inRing, done, refused}
-use Rattle.util.specs.Interaction.{Step, step, Interaction, lowPassGain, softClip, responds, limits}
+use Rattle.util.specs.Interaction.{Step, step, Interaction, lowPassGain, softClip, anyInteraction}
 
 -- a comb with its ring
 pub record Comb (R L : Type 0) : Type 0 where
@@ -43,11 +42,11 @@ tunedStep d c ring x = comb lowPassGain softClip (delayedBy d) (tunedOver c ring
 
 -- ---- single operations: any response, any limit
 
-abbrev pub combOver : CombFilter → List Float → Comb Response Limit
+abbrev pub combOver : CombFilter → List Float → Comb AnyInteraction AnyInteraction
 combOver c ring = record { ring = ring; position = c .cursor .position; response = c .response; limit = c .limit }
 
 -- a step as an operation leaves it
-abbrev pub told : Step (Comb Response Limit) → Outcome Combed (List Float)
+abbrev pub told : Step (Comb AnyInteraction AnyInteraction) → Outcome Combed (List Float)
 told s =
     outcome
     (record { verdict = done; comb = record { cursor = record { position = s .next .position }; response = s .next .response; limit = s .next .limit }; sample = s .sample })
@@ -56,7 +55,7 @@ told s =
 unfoldable pub combed : Reading → CombFilter → List Float → Float → Outcome Combed (List Float)
 combed reading c ring x =
     cond (inRing (c .cursor .position) (length ring))
-    (told (comb responds limits reading (combOver c ring) x))
+    (told (comb anyInteraction anyInteraction reading (combOver c ring) x))
     (outcome (record { verdict = refused; comb = c; sample = zero64 }) ring)
 
 -- "mute as in util.rs": the ring, the response and the limit; the position stays
@@ -64,6 +63,6 @@ unfoldable pub combMuted : CombFilter → List Float → Outcome Muted (List Flo
 combMuted c ring =
     cond (inRing (c .cursor .position) (length ring))
     (outcome
-    (record { verdict = done; comb = record { cursor = c .cursor; response = responds .mute (c .response); limit = limits .mute (c .limit) } })
+    (record { verdict = done; comb = record { cursor = c .cursor; response = anyInteraction .mute (c .response); limit = anyInteraction .mute (c .limit) } })
     (replicate (length ring) zero64))
     (outcome (record { verdict = refused; comb = c }) ring)

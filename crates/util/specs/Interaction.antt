@@ -1,5 +1,4 @@
 -- Interactions, as util.rs has them: what each makes of a sample, its delay in samples, and what muting leaves of it. Assumes nothing.
-use mathlib.Core.Logic.{_⊎_, inl, inr, ⊎-elim}
 use mathlib.Core.Bool.{cond}
 use lib.Ieee.{Float, binary64, add, sub, mul, div, le}
 use Rattle.numbers.specs.Constants.{zero64, one64, tau64}
@@ -7,10 +6,8 @@ use Rattle.numbers.specs.Small.{maxOf, absOf, copysignOf}
 use Rattle.util.specs.declared.soft_clip.SoftClip.{SoftClip}
 use Rattle.util.specs.declared.low_pass.OnePoleLowPass.{OnePoleLowPass}
 use Rattle.util.specs.declared.interaction.LowPassGain.{LowPassGain}
-use Rattle.util.specs.declared.interaction.Response.{Response}
-use Rattle.util.specs.declared.interaction.Response.the-variants.{Gain as Response·Gain, LowPassGain as Response·LowPassGain}
-use Rattle.util.specs.declared.interaction.Limit.{Limit}
-use Rattle.util.specs.declared.interaction.Limit.the-variants.{Gain as Limit·Gain, SoftClip as Limit·SoftClip}
+use Rattle.util.specs.declared.interaction.AnyInteraction.{AnyInteraction}
+use Rattle.util.specs.declared.interaction.AnyInteraction.the-variants as any
 
 -- the next state, with the sample
 pub record Step (S : Type 0) : Type 0 where
@@ -94,26 +91,22 @@ abbrev pub lowPassGain : Interaction LowPassGain
 lowPassGain =
     through (λ b. record { first = b .first; second = b .second }) (λ p. record { first = p .first; second = p .second }) (followedBy lowPass gain)
 
--- ---- the responses and the limits in use, by name
+-- ---- those that a comb takes, by name: as its response, or as its limit
 
--- one of two interactions: `case` tells which it is, and `left` and `right` make it again
-abbrev pub oneOf : {S T U : Type 0} → (U → S ⊎ T) → (S → U) → (T → U) → Interaction S → Interaction T → Interaction U
-oneOf case left right f g = record {
-  process = λ u x. ⊎-elim (λ s. over left (f .process s x)) (λ t. over right (g .process t x)) (case u);
-  delay = λ u. ⊎-elim (f .delay) (g .delay) (case u);
-  mute = λ u. ⊎-elim (λ s. left (f .mute s)) (λ t. right (g .mute t)) (case u);
-}
+abbrev anyProcess : AnyInteraction → Float → Step AnyInteraction
+anyProcess (any.Gain g) x = over any.Gain (gain .process g x)
+anyProcess (any.SoftClip s) x = over any.SoftClip (softClip .process s x)
+anyProcess (any.LowPassGain p) x = over any.LowPassGain (lowPassGain .process p x)
 
-abbrev responseCase : Response → Float ⊎ LowPassGain
-responseCase (Response·Gain g) = inl g
-responseCase (Response·LowPassGain p) = inr p
+abbrev anyDelay : AnyInteraction → Float
+anyDelay (any.Gain g) = gain .delay g
+anyDelay (any.SoftClip s) = softClip .delay s
+anyDelay (any.LowPassGain p) = lowPassGain .delay p
 
-abbrev pub responds : Interaction Response
-responds = oneOf responseCase Response·Gain Response·LowPassGain gain lowPassGain
+abbrev anyMute : AnyInteraction → AnyInteraction
+anyMute (any.Gain g) = any.Gain (gain .mute g)
+anyMute (any.SoftClip s) = any.SoftClip (softClip .mute s)
+anyMute (any.LowPassGain p) = any.LowPassGain (lowPassGain .mute p)
 
-abbrev limitCase : Limit → Float ⊎ SoftClip
-limitCase (Limit·Gain g) = inl g
-limitCase (Limit·SoftClip s) = inr s
-
-abbrev pub limits : Interaction Limit
-limits = oneOf limitCase Limit·Gain Limit·SoftClip gain softClip
+abbrev pub anyInteraction : Interaction AnyInteraction
+anyInteraction = record { process = anyProcess; delay = anyDelay; mute = anyMute }

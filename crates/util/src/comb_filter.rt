@@ -8,9 +8,8 @@ use crate::delay_line::delayed_sample;
 use crate::delay_line::heard_at;
 use crate::delay_line::in_ring;
 use crate::delay_line::slot_after;
-use crate::interaction::Limit;
+use crate::interaction::AnyInteraction;
 use crate::interaction::LowPassGain;
-use crate::interaction::Response;
 use crate::soft_clip::SoftClip;
 use magnetron::check::Verdict;
 use magnetron::pool::fill_with_zeros;
@@ -24,8 +23,8 @@ ghost use Rattle.util.specs.Comb.{combed, combMuted, tunedOver, tunedSte
 
 pub struct CombFilter {
     pub cursor: Cursor,
-    pub response: Response,
-    pub limit: Limit,
+    pub response: AnyInteraction,
+    pub limit: AnyInteraction,
 }
 
 pub struct Combed {
@@ -97,8 +96,8 @@ impl CombFilter {
         let limit = self.limit;
         let limited = limit.process_sample(responded.sample + input);
         ring[at] = limited.sample;
-        let response = responded.response;
-        let limit = limited.limit;
+        let response = responded.next;
+        let limit = limited.next;
         Combed {
             verdict: DONE,
             comb: CombFilter {

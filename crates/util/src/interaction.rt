@@ -1,8 +1,8 @@
-// Interactions by name: a low-pass followed by a gain, and the responses and limits that a comb takes. A gain is an f64.
+// Interactions by name: a low-pass followed by a gain, and any of those that a comb takes as its response or its limit. A gain is an f64.
 use crate::low_pass::OnePoleLowPass;
 use crate::soft_clip::SoftClip;
 ghost use mathlib.Core.Path.{_≡_};
-ghost use Rattle.util.specs.Interaction.{step, lowPassGain, responds, limits};
+ghost use Rattle.util.specs.Interaction.{step, lowPassGain, anyInteraction};
 
 // A low-pass followed by a gain.
 pub struct LowPassGain {
@@ -49,32 +49,41 @@ impl LowPassGain {
     }
 }
 
-// What a comb answers through.
-pub enum Response {
+// What a comb answers through, or writes through.
+pub enum AnyInteraction {
     Gain(f64),
+    SoftClip(SoftClip),
     LowPassGain(LowPassGain),
 }
 
-pub struct Responded {
-    pub response: Response,
+pub struct Interacted {
+    pub next: AnyInteraction,
     pub sample: f64,
 }
 
-impl Response {
+impl AnyInteraction {
     // The sample that it makes of the input, and what it is for the next one.
-    pub fn process_sample(self, input: f64) -> Responded
-        ensures { λ r. ⌜ step (r .response) (r .sample) ≡ responds .process self input ⌝ }
+    pub fn process_sample(self, input: f64) -> Interacted
+        ensures { λ r. ⌜ step (r .next) (r .sample) ≡ anyInteraction .process self input ⌝ }
     {
         match self {
-            Response::Gain(factor) => Responded {
-                response: self,
+            AnyInteraction::Gain(factor) => Interacted {
+                next: self,
                 sample: factor * input,
             },
-            Response::LowPassGain(filter) => {
+            AnyInteraction::SoftClip(clip) => {
+                let clipped = clip.process_sample(input);
+                let clip = clipped.clip;
+                Interacted {
+                    next: AnyInteraction::SoftClip(clip),
+                    sample: clipped.sample,
+                }
+            }
+            AnyInteraction::LowPassGain(filter) => {
                 let gained = filter.process_sample(input);
-                let next = gained.next;
-                Responded {
-                    response: Response::LowPassGain(next),
+                let filter = gained.next;
+                Interacted {
+                    next: AnyInteraction::LowPassGain(filter),
                     sample: gained.sample,
                 }
             }
@@ -83,74 +92,23 @@ impl Response {
 
     // Its delay in samples.
     pub fn delay_samples(self) -> f64
-        ensures { λ r. ⌜ r ≡ responds .delay self ⌝ }
+        ensures { λ r. ⌜ r ≡ anyInteraction .delay self ⌝ }
     {
         match self {
-            Response::Gain(_) => 0.0,
-            Response::LowPassGain(filter) => filter.delay_samples(),
+            AnyInteraction::Gain(_) => 0.0,
+            AnyInteraction::SoftClip(clip) => clip.delay_samples(),
+            AnyInteraction::LowPassGain(filter) => filter.delay_samples(),
         }
     }
 
     // The same, with nothing remembered.
-    pub fn mute(self) -> Response
-        ensures { λ r. ⌜ r ≡ responds .mute self ⌝ }
+    pub fn mute(self) -> AnyInteraction
+        ensures { λ r. ⌜ r ≡ anyInteraction .mute self ⌝ }
     {
         match self {
-            Response::Gain(_) => self,
-            Response::LowPassGain(filter) => Response::LowPassGain(filter.mute()),
-        }
-    }
-}
-
-// What a comb writes through.
-pub enum Limit {
-    Gain(f64),
-    SoftClip(SoftClip),
-}
-
-pub struct Limited {
-    pub limit: Limit,
-    pub sample: f64,
-}
-
-impl Limit {
-    // The sample that it makes of the input, and what it is for the next one.
-    pub fn process_sample(self, input: f64) -> Limited
-        ensures { λ r. ⌜ step (r .limit) (r .sample) ≡ limits .process self input ⌝ }
-    {
-        match self {
-            Limit::Gain(factor) => Limited {
-                limit: self,
-                sample: factor * input,
-            },
-            Limit::SoftClip(clip) => {
-                let clipped = clip.process_sample(input);
-                let next = clipped.clip;
-                Limited {
-                    limit: Limit::SoftClip(next),
-                    sample: clipped.sample,
-                }
-            }
-        }
-    }
-
-    // Its delay in samples.
-    pub fn delay_samples(self) -> f64
-        ensures { λ r. ⌜ r ≡ limits .delay self ⌝ }
-    {
-        match self {
-            Limit::Gain(_) => 0.0,
-            Limit::SoftClip(clip) => clip.delay_samples(),
-        }
-    }
-
-    // The same, with nothing remembered.
-    pub fn mute(self) -> Limit
-        ensures { λ r. ⌜ r ≡ limits .mute self ⌝ }
-    {
-        match self {
-            Limit::Gain(_) => self,
-            Limit::SoftClip(clip) => Limit::SoftClip(clip.mute()),
+            AnyInteraction::Gain(_) => self,
+            AnyInteraction::SoftClip(clip) => AnyInteraction::SoftClip(clip.mute()),
+            AnyInteraction::LowPassGain(filter) => AnyInteraction::LowPassGain(filter.mute()),
         }
     }
 }

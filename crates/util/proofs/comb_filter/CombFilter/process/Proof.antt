@@ -4,7 +4,7 @@ use native.Mathlib.Omega.{arith}
 use denote.Ref.{now}
 use Rattle.magnetron.proofs.Tests.{holds, fails}
 use Rattle.util.specs.DelayLine.{readingOf}
-use Rattle.util.specs.Interaction.{responds, limits}
+use Rattle.util.specs.Interaction.{anyInteraction}
 use Rattle.util.specs.Comb.{combed, combOver, told}
 use Rattle.util.proofs.Ring.{within}
 use Rattle.util.proofs.Comb.{comb-is}
@@ -45,7 +45,7 @@ unfolding combed
 returns-2 c =
     let a = c .before .before .before .before .before .before .before .before .before .args in
     simp (holds (c .before .before .before .before .before .before .before .in-ring .ensures) (c .before .before .before .before .before .before .if1 .left))
-    (ap told (comb-is responds limits (readingOf (a .read)) (combOver (a .self) (now (a .ring))) (a .input) (c .before .before .before .before .before .slot-after .ensures .0) (c .before .before .before .delayed-sample .ensures) (c .before .before .process-sample .ensures) (c .process-sample2 .ensures)))
+    (ap told (comb-is anyInteraction anyInteraction (readingOf (a .read)) (combOver (a .self) (now (a .ring))) (a .input) (c .before .before .before .before .before .slot-after .ensures .0) (c .before .before .before .delayed-sample .ensures) (c .before .before .process-sample .ensures) (c .process-sample2 .ensures)))
 
 pub process-spec : {M : Type 1} → statement M
 process-spec =
