@@ -1,12 +1,11 @@
-// Sort 7: the all-pass delay.
-
+// Sort 7: the all-pass delay. Rests on `util::all_pass`, which refuses a bad ring.
 use crate::device::Device;
 use util::all_pass::AllPassDelay;
 use util::all_pass::Passed;
 use util::delay_line::Cursor;
 
 // One operation, by its number.
-pub fn perform(device: Device, ring: &mut [f64], operation: u64, a: f64, b: f64) -> Device {
+pub(crate) fn perform(device: Device, ring: &mut [f64], operation: u64, a: f64, b: f64) -> Device {
     let position = device.position;
     let delay = AllPassDelay {
         cursor: Cursor { position },

@@ -1,18 +1,16 @@
-// Sort 6: the comb, with each response and each limit.
-
+// Sort 6: the comb, with each response and each limit. Rests on `util::comb_filter`, which refuses a bad ring.
 use crate::device::Device;
 use util::comb_filter::CombFilter;
 use util::comb_filter::Combed;
 use util::comb_filter::Muted;
 use util::delay_line::Cursor;
-use util::interaction::Limit;
+use util::interaction::AnyInteraction;
 use util::interaction::LowPassGain;
-use util::interaction::Response;
 use util::low_pass::OnePoleLowPass;
 use util::soft_clip::SoftClip;
 
 // One operation, by its number.
-pub fn perform(device: Device, ring: &mut [f64], operation: u64, a: f64, b: f64) -> Device {
+pub(crate) fn perform(device: Device, ring: &mut [f64], operation: u64, a: f64, b: f64) -> Device {
     let filter = device.comb();
     match operation {
         0 => {
@@ -49,25 +47,25 @@ impl Device {
         }
     }
 
-    fn response(self) -> Response {
+    fn response(self) -> AnyInteraction {
         if self.response == 0 {
-            return Response::Gain(self.factor);
+            return AnyInteraction::Gain(self.factor);
         }
         let first = OnePoleLowPass {
             damping: self.damping,
             state: self.state,
         };
-        Response::LowPassGain(LowPassGain {
+        AnyInteraction::LowPassGain(LowPassGain {
             first,
             second: self.factor,
         })
     }
 
-    fn limit(self) -> Limit {
+    fn limit(self) -> AnyInteraction {
         if self.limit == 0 {
-            return Limit::Gain(self.level);
+            return AnyInteraction::Gain(self.level);
         }
-        Limit::SoftClip(SoftClip {
+        AnyInteraction::SoftClip(SoftClip {
             linear_until: self.level,
         })
     }
@@ -78,7 +76,7 @@ impl Device {
         let filter = combed.comb;
         let mut device = self.after(verdict, filter.cursor.position, combed.sample);
         let response = filter.response;
-        let Response::LowPassGain(chain) = response else {
+        let AnyInteraction::LowPassGain(chain) = response else {
             return device;
         };
         device.state = chain.first.state;

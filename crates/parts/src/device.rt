@@ -1,6 +1,5 @@
 // Sorts 3 to 7: a device is set up, asked one operation after the other, and shown at the end. What the five have in common is here; what
 // each operation does stands in `ring`, `soft_clip`, `low_pass`, `comb` and `all_pass`.
-
 use crate::all_pass;
 use crate::comb;
 use crate::low_pass;
@@ -18,32 +17,32 @@ use words::number::to_word;
 // What a device keeps, and what its last operation answered. Each sort has its own part of it: the position in a ring; the low-pass of a
 // response, or a low-pass by itself; the factor, which is a response's gain, an all-pass's feedback, or up to where a soft clip is linear;
 // and a comb's limit.
-pub struct Device {
-    pub sort: u64,
-    pub position: usize,
-    pub response: u64,
-    pub damping: f64,
-    pub state: f64,
-    pub factor: f64,
-    pub limit: u64,
-    pub level: f64,
-    pub number: usize,
-    pub stage: usize,
-    pub sample: f64,
+pub(crate) struct Device {
+    pub(crate) sort: u64,
+    pub(crate) position: usize,
+    pub(crate) response: u64,
+    pub(crate) damping: f64,
+    pub(crate) state: f64,
+    pub(crate) factor: f64,
+    pub(crate) limit: u64,
+    pub(crate) level: f64,
+    pub(crate) number: usize,
+    pub(crate) stage: usize,
+    pub(crate) sample: f64,
 }
 
 // A device as its settings have it, and the place after them.
-pub struct Set {
-    pub place: Place,
-    pub device: Device,
+struct Set {
+    place: Place,
+    device: Device,
 }
 
 // An operation and its arguments, and the place after them.
-pub struct Request {
-    pub place: Place,
-    pub operation: u64,
-    pub a: f64,
-    pub b: f64,
+struct Request {
+    place: Place,
+    operation: u64,
+    a: f64,
+    b: f64,
 }
 
 // A case, from the word after its sort on.
@@ -186,7 +185,7 @@ fn perform(device: Device, ring: &mut [f64], operation: u64, a: f64, b: f64) -> 
 
 impl Device {
     // After an operation on a ring.
-    pub fn after(mut self, verdict: Verdict, position: usize, sample: f64) -> Device {
+    pub(crate) fn after(mut self, verdict: Verdict, position: usize, sample: f64) -> Device {
         self.number = verdict.number;
         self.stage = verdict.stage;
         self.position = position;

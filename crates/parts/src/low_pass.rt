@@ -1,11 +1,10 @@
-// Sort 5: the one-pole low-pass by itself.
-
+// Sort 5: the one-pole low-pass by itself. Rests on `util::low_pass`.
 use crate::device::Device;
 use util::low_pass::Filtered;
 use util::low_pass::OnePoleLowPass;
 
 // One operation, by its number.
-pub fn perform(device: Device, operation: u64, a: f64, b: f64) -> Device {
+pub(crate) fn perform(device: Device, operation: u64, a: f64, b: f64) -> Device {
     let filter = OnePoleLowPass {
         damping: device.damping,
         state: device.state,

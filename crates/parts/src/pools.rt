@@ -1,18 +1,30 @@
-// The pools that a case lends: their sizes, the lengths of the lent slices, what these hold, and the stale marks. Any of it may be bad:
-// the engine is what refuses.
+// The pools that a case lends: their sizes, the lengths of the slices that are lent with them, and the stale marks. Any of it may be bad:
+// the engine is what refuses. Rests on `stream` for the words.
 use magnetron::buffer::Marks;
 use magnetron::pool::Pool;
 use magnetron::pool::Pools;
 use stream::place::Buffer;
 use stream::place::Place;
 
-// Counts and capacities as lent, the lengths of the three slices that are lent with them, and the place after them.
-pub struct Sizes {
-    pub place: Place,
-    pub pools: Pools,
+// What there is for the samples of a pool, for zeros, and for the cells of rings; a case lends the first part of each.
+pub type Samples = [f64; 65536];
+
+pub type Zeros = [f64; 8192];
+
+pub type Cells = [f64; 131072];
+
+// How much of each array a case lends with its pools.
+pub struct Lengths {
     pub internal: usize,
     pub external: usize,
     pub zeros: usize,
+}
+
+// Counts and capacities as lent, the lengths of the three slices, and the place after them.
+pub struct Sizes {
+    pub place: Place,
+    pub pools: Pools,
+    pub lengths: Lengths,
 }
 
 // Pools with their marks, and the place after them.
@@ -33,9 +45,11 @@ pub fn read_sizes(start: Place, input: &mut Buffer) -> Sizes {
             external: pool_of(words[2], words[3]),
             reset: false,
         },
-        internal: words[4] as usize,
-        external: words[5] as usize,
-        zeros: words[6] as usize,
+        lengths: Lengths {
+            internal: words[4] as usize,
+            external: words[5] as usize,
+            zeros: words[6] as usize,
+        },
     }
 }
 
@@ -45,19 +59,6 @@ fn pool_of(count: u64, capacity: u64) -> Pool {
         capacity: capacity as usize,
         stale: [false; 16],
     }
-}
-
-// What the three slices hold.
-pub fn read_contents(
-    start: Place,
-    input: &mut Buffer,
-    internal: &mut [f64],
-    external: &mut [f64],
-    zeros: &mut [f64],
-) -> Place {
-    let inside = start.read_samples(input, internal);
-    let outside = inside.read_samples(input, external);
-    outside.read_samples(input, zeros)
 }
 
 // The marks of both pools.
@@ -86,17 +87,6 @@ fn marks_of(words: [u64; 16]) -> [bool; 16] {
         k += 1;
     }
     marks
-}
-
-// All samples of both pools.
-pub fn write_samples(
-    start: Place,
-    output: &mut Buffer,
-    internal: &[f64],
-    external: &[f64],
-) -> Place {
-    let inside = start.write_samples(output, internal);
-    inside.write_samples(output, external)
 }
 
 // The marks of both pools.

@@ -1,5 +1,4 @@
-// Sort 3: the ring by itself.
-
+// Sort 3: the ring by itself. Rests on `util::delay_line`, which refuses a bad ring.
 use crate::device::Device;
 use util::delay_line::Cursor;
 use util::delay_line::Heard;
@@ -9,7 +8,7 @@ ghost use mathlib.Core.Path.{_≡_};
 ghost use Rattle.util.specs.DelayLine.{advanced};
 
 // One operation, by its number.
-pub fn perform(device: Device, ring: &mut [f64], operation: u64, x: f64) -> Device {
+pub(crate) fn perform(device: Device, ring: &mut [f64], operation: u64, x: f64) -> Device {
     let position = device.position;
     let cursor = Cursor { position };
     match operation {

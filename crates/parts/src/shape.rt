@@ -1,23 +1,23 @@
-// How many words a case of sorts 3 to 7 has in each of its parts, as FORMAT.md tells it.
+// How many words a case of sorts 3 to 7 has in each of its parts, as FORMAT.md tells it. Rests on nothing.
 
 // The parts: a ring's length and position, a comb's response, a low-pass, the other settings, an operation's number. The counts of the
 // arguments of up to six operations follow.
-pub const RING: u64 = 0;
+pub(crate) const RING: u64 = 0;
 
-pub const RESPONSE: u64 = 1;
+pub(crate) const RESPONSE: u64 = 1;
 
-pub const LOW_PASS: u64 = 2;
+pub(crate) const LOW_PASS: u64 = 2;
 
-pub const REST: u64 = 3;
+pub(crate) const REST: u64 = 3;
 
-pub const OPERATION: u64 = 4;
+pub(crate) const OPERATION: u64 = 4;
 
 const ARGUMENTS: u64 = 5;
 
 const PARTS: u64 = 11;
 
 // No part has so many words: there is no such operation.
-pub const NONE: u64 = 9;
+pub(crate) const NONE: u64 = 9;
 
 const OF_RING: [u64; 11] = [2, 0, 0, 0, 1, 0, 0, 1, 0, 1, 0];
 
@@ -29,7 +29,7 @@ const OF_COMB: [u64; 11] = [2, 1, 0, 3, 1, 1, 2, 0, 9, 9, 9];
 
 const OF_ALL_PASS: [u64; 11] = [2, 0, 0, 1, 1, 1, 2, 0, 9, 9, 9];
 
-pub fn count(sort: u64, part: u64) -> u64 {
+pub(crate) fn count(sort: u64, part: u64) -> u64 {
     if part >= PARTS {
         return NONE;
     }
@@ -45,7 +45,7 @@ pub fn count(sort: u64, part: u64) -> u64 {
 }
 
 // How many arguments an operation has.
-pub fn arity(sort: u64, operation: u64) -> u64 {
+pub(crate) fn arity(sort: u64, operation: u64) -> u64 {
     if operation > 5 {
         return NONE;
     }

@@ -1,11 +1,15 @@
-// Sorts 8 and 9: single reads and writes, and prepare, on pools without a patch.
-
+// Sorts 8 and 9: single reads and writes, and prepare, on pools without a patch. Rests on `pools` for what both sorts begin with, and on
+// `magnetron` for each operation.
+ghost use lib.ListN.{length};
+ghost use Rattle.parts.specs.Lent.{Fit, Within};
+use crate::pools::Cells;
+use crate::pools::Lengths;
 use crate::pools::Marked;
-use crate::pools::read_contents;
+use crate::pools::Samples;
+use crate::pools::Zeros;
 use crate::pools::read_marks;
 use crate::pools::read_sizes;
 use crate::pools::write_marks;
-use crate::pools::write_samples;
 use flat::stage::buffer_of;
 use magnetron::check::Verdict;
 use magnetron::check::done;
@@ -44,51 +48,50 @@ const COUNTS: [u64; 18] = [2, 0, 0, 2, 1, 1, 2, 1, 1, 2, 1, 2, 1, 0, 0, 0, 0, 0]
 const MOST_VALUES: usize = 8192;
 
 // An operation and what it names, and the place after it. Buffers are words.
-pub struct Request {
-    pub place: Place,
-    pub operation: u64,
-    pub n: usize,
-    pub buffer: usize,
-    pub level: OutLevel,
-    pub length: usize,
-    pub first: usize,
-    pub second: usize,
+struct Request {
+    place: Place,
+    operation: u64,
+    n: usize,
+    buffer: usize,
+    level: OutLevel,
+    length: usize,
+    first: usize,
+    second: usize,
 }
 
-// A case, from the word after its sort on.
+// A case, from the word after its sort on. Where a slice would be longer than what is lent for it, the case is refused.
 pub fn answer(
     start: Place,
     sort: u64,
     input: &mut Buffer,
     output: &mut Buffer,
-    internal: &mut [f64],
-    external: &mut [f64],
-    zeros: &mut [f64],
-    values: &mut [f64],
+    internal: &mut Samples,
+    external: &mut Samples,
+    zeros: &mut Zeros,
+    values: &mut Cells,
 ) -> Place {
     let sizes = read_sizes(start, input);
     let place = sizes.place;
     let pools = sizes.pools;
-    let inner = sizes.internal;
-    let outer = sizes.external;
-    let zero = sizes.zeros;
-    if internal.len() < inner {
+    let lengths = sizes.lengths;
+    if internal.len() < lengths.internal {
         return place.refused();
     }
-    if external.len() < outer {
+    if external.len() < lengths.external {
         return place.refused();
     }
-    if zeros.len() < zero {
+    if zeros.len() < lengths.zeros {
         return place.refused();
     }
     answer_over(
         Marked { place, pools },
         sort,
+        lengths,
         input,
         output,
-        &mut internal[0..inner],
-        &mut external[0..outer],
-        &mut zeros[0..zero],
+        internal,
+        external,
+        zeros,
         values,
     )
 }
@@ -97,19 +100,34 @@ pub fn answer(
 fn answer_over(
     start: Marked,
     sort: u64,
+    lengths: Lengths,
     input: &mut Buffer,
     output: &mut Buffer,
-    internal: &mut [f64],
-    external: &mut [f64],
-    zeros: &mut [f64],
-    values: &mut [f64],
-) -> Place {
+    internal: &mut Samples,
+    external: &mut Samples,
+    zeros: &mut Zeros,
+    values: &mut Cells,
+) -> Place
+    requires { ⌜ Fit lengths ⌝ }
+{
     let pools = start.pools;
     let lent = start.place;
-    let place = read_contents(lent, input, internal, external, zeros);
-    let marked = read_marks(place, pools, input);
+    let filled = lent.read_first(input, internal, lengths.internal)
+        .read_first(input, external, lengths.external)
+        .read_first(input, zeros, lengths.zeros);
+    let marked = read_marks(filled, pools, input);
     let set = read_reset(marked, sort, input);
-    operate(set, sort, input, output, internal, external, zeros, values)
+    operate(
+        set,
+        sort,
+        lengths,
+        input,
+        output,
+        internal,
+        external,
+        zeros,
+        values,
+    )
 }
 
 // Sort 9 has a reset flag.
@@ -129,13 +147,16 @@ fn read_reset(start: Marked, sort: u64, input: &mut Buffer) -> Marked {
 fn operate(
     start: Marked,
     sort: u64,
+    lengths: Lengths,
     input: &mut Buffer,
     output: &mut Buffer,
-    internal: &mut [f64],
-    external: &mut [f64],
-    zeros: &[f64],
-    values: &mut [f64],
-) -> Place {
+    internal: &mut Samples,
+    external: &mut Samples,
+    zeros: &Zeros,
+    values: &mut Cells,
+) -> Place
+    requires { ⌜ Fit lengths ⌝ }
+{
     let set = start.place;
     let count = set.next(input);
     let mut place = count.place;
@@ -146,13 +167,52 @@ fn operate(
             return place;
         }
         left -= 1;
-        let request = read_request(place, sort, input);
-        place = read_values(request, input, values);
-        let wrote = perform(request, pools, internal, external, zeros, values);
-        pools = wrote.pools;
-        place = write_step(place, request, wrote, output, internal, external, zeros);
+        let after = answer_one(
+            Marked { place, pools },
+            sort,
+            lengths,
+            input,
+            output,
+            internal,
+            external,
+            zeros,
+            values,
+        );
+        place = after.place;
+        pools = after.pools;
     }
-    write_end(place, sort, pools, output, internal, external)
+    write_end(place, sort, pools, lengths, output, internal, external)
+}
+
+fn answer_one(
+    start: Marked,
+    sort: u64,
+    lengths: Lengths,
+    input: &mut Buffer,
+    output: &mut Buffer,
+    internal: &mut Samples,
+    external: &mut Samples,
+    zeros: &Zeros,
+    values: &mut Cells,
+) -> Marked
+    requires { ⌜ Fit lengths ⌝ }
+{
+    let before = start.pools;
+    let request = read_request(start.place, sort, input);
+    let asked = read_values(request, input, values);
+    let wrote = perform(request, before, lengths, internal, external, zeros, values);
+    let pools = wrote.pools;
+    let place = write_step(
+        asked,
+        request,
+        wrote,
+        lengths,
+        output,
+        internal,
+        external,
+        zeros,
+    );
+    Marked { place, pools }
 }
 
 // A level is 0, or 1 and its bits. Then come the length of lent values, or one input, or two.
@@ -221,28 +281,67 @@ fn out_level(mark: u64, bits: u64) -> OutLevel {
 }
 
 // The values that a write is lent.
-fn read_values(request: Request, input: &mut Buffer, values: &mut [f64]) -> Place {
+fn read_values(request: Request, input: &mut Buffer, values: &mut Cells) -> Place {
     let place = request.place;
     let length = request.length;
-    if values.len() < length {
-        return place.refused();
-    }
     if MOST_VALUES < length {
         return place.refused();
     }
-    place.read_samples(input, &mut values[0..length])
+    place.read_first(input, values, length)
 }
 
-// The first values; none where there are not so many.
-fn part(values: &[f64], length: usize) -> &[f64] {
-    if values.len() < length {
-        return &values[0..0];
+// The first samples; none where there are not so many.
+fn part(samples: &[f64], length: usize) -> &[f64] {
+    if samples.len() < length {
+        return &samples[0..0];
     }
-    &values[0..length]
+    &samples[0..length]
 }
 
-// One operation. A read is only checked here, and changes nothing.
+// One operation, on the parts that are lent.
 fn perform(
+    request: Request,
+    pools: Pools,
+    lengths: Lengths,
+    internal: &mut [f64],
+    external: &mut [f64],
+    zeros: &[f64],
+    values: &[f64],
+) -> Wrote
+    requires { ⌜ Within lengths (length (now internal)) (length (now external)) (length (now zeros)) ⌝ }
+{
+    let inside = lengths.internal;
+    let outside = lengths.external;
+    let zero = lengths.zeros;
+    if writes(request.operation) {
+        return write(
+            request,
+            pools,
+            &mut internal[0..inside],
+            &mut external[0..outside],
+            &zeros[0..zero],
+            values,
+        );
+    }
+    look(
+        request,
+        pools,
+        &internal[0..inside],
+        &external[0..outside],
+        &zeros[0..zero],
+    )
+}
+
+// Whether an operation writes samples.
+fn writes(operation: u64) -> bool {
+    if operation < PREPARE {
+        return operation != READ;
+    }
+    false
+}
+
+// The operations that write samples.
+fn write(
     request: Request,
     pools: Pools,
     internal: &mut [f64],
@@ -257,12 +356,6 @@ fn perform(
     let second = buffer_of(request.second);
     let operation = request.operation;
     match operation {
-        READ => {
-            return unwritten(
-                check_read(pools, internal, external, zeros, output, n),
-                pools,
-            );
-        }
         WRITE_VALUES => {
             let lent = part(values, request.length);
             return read_0_write_1(pools, internal, external, zeros, output, level, n, lent);
@@ -270,7 +363,7 @@ fn perform(
         2 => {
             return read_1_write_1(pools, internal, external, zeros, first, output, level, n);
         }
-        3 => {
+        _ => {
             return read_2_write_1(
                 pools,
                 internal,
@@ -281,6 +374,27 @@ fn perform(
                 output,
                 level,
                 n,
+            );
+        }
+    }
+}
+
+// The others: a read, which is only checked here, prepare, and set_reset.
+fn look(
+    request: Request,
+    pools: Pools,
+    internal: &[f64],
+    external: &[f64],
+    zeros: &[f64],
+) -> Wrote {
+    let n = request.n;
+    let operation = request.operation;
+    match operation {
+        READ => {
+            let buffer = buffer_of(request.buffer);
+            return unwritten(
+                check_read(pools, internal, external, zeros, buffer, n),
+                pools,
             );
         }
         PREPARE => {
@@ -312,10 +426,11 @@ fn write_step<'a>(
     place: Place,
     request: Request,
     wrote: Wrote,
+    lengths: Lengths,
     output: &mut Buffer,
-    internal: &'a [f64],
-    external: &'a [f64],
-    zeros: &'a [f64],
+    internal: &'a Samples,
+    external: &'a Samples,
+    zeros: &'a Zeros,
 ) -> Place {
     let answer = wrote.answer;
     let pools = wrote.pools;
@@ -324,16 +439,16 @@ fn write_step<'a>(
         .write(output, answer.stage as u64);
     let operation = request.operation;
     if operation == READ {
-        let part = read(
+        return write_part(
+            told,
+            request,
             pools,
+            lengths,
+            output,
             internal,
             external,
             zeros,
-            buffer_of(request.buffer),
-            request.n,
         );
-        return told.write(output, part.len() as u64)
-            .write_samples(output, part);
     }
     if operation < PREPARE {
         let active = answer.activity;
@@ -342,16 +457,44 @@ fn write_step<'a>(
     write_marks(told.write_flag(output, pools.reset), pools, output)
 }
 
+// The part that a read hands back: its length and its samples.
+fn write_part<'a>(
+    place: Place,
+    request: Request,
+    pools: Pools,
+    lengths: Lengths,
+    output: &mut Buffer,
+    internal: &'a [f64],
+    external: &'a [f64],
+    zeros: &'a [f64],
+) -> Place {
+    let buffer = buffer_of(request.buffer);
+    let samples = read(
+        pools,
+        part(internal, lengths.internal),
+        part(external, lengths.external),
+        part(zeros, lengths.zeros),
+        buffer,
+        request.n,
+    );
+    place
+        .write(output, samples.len() as u64)
+        .write_samples(output, samples)
+}
+
 // After the last operation: all samples, and in sort 8 the marks.
 fn write_end(
     place: Place,
     sort: u64,
     pools: Pools,
+    lengths: Lengths,
     output: &mut Buffer,
-    internal: &[f64],
-    external: &[f64],
+    internal: &Samples,
+    external: &Samples,
 ) -> Place {
-    let told = write_samples(place, output, internal, external);
+    let told = place
+        .write_first(output, internal, lengths.internal)
+        .write_first(output, external, lengths.external);
     if sort == SINGLE {
         return write_marks(told, pools, output);
     }

@@ -1,10 +1,9 @@
-// Sort 4: the soft clip by itself.
-
+// Sort 4: the soft clip by itself. Rests on `util::soft_clip`.
 use crate::device::Device;
 use util::soft_clip::SoftClip;
 
 // The one operation.
-pub fn perform(mut device: Device, x: f64) -> Device {
+pub(crate) fn perform(mut device: Device, x: f64) -> Device {
     let clip = SoftClip {
         linear_until: device.factor,
     };

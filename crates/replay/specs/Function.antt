@@ -9,7 +9,7 @@ use Rattle.numbers.specs.Turns.{sineOf, cosineOf}
 use Rattle.words.specs.Number.{toWord}
 
 -- what each answers, as a word, from number 0 on
-unfoldable pub answers : List (Float → Float → Float → ℕ)
+abbrev pub answers : List (Float → Float → Float → ℕ)
 answers =
     (λ a b c. toWord (maxOf a b))
     ∷ (λ a b c. toWord (minOf a b))

@@ -11,7 +11,7 @@ use words::number::to_word;
 const ARITIES: [u8; 13] = [2, 2, 3, 1, 2, 1, 1, 1, 1, 1, 1, 1, 1];
 
 // How many arguments an answer takes; 0 where there is no such function.
-pub fn arity(function: u64) -> u8
+pub(crate) fn arity(function: u64) -> u8
     ensures { λ r. ⌜ r ≡ arityOf function ⌝ }
 {
     if function < 13 {
@@ -21,7 +21,7 @@ pub fn arity(function: u64) -> u8
 }
 
 // The answer as a word. Arguments that the function does not take are not looked at.
-pub fn answer(function: u64, a: f64, b: f64, c: f64) -> u64
+pub(crate) fn answer(function: u64, a: f64, b: f64, c: f64) -> u64
     ensures { λ r. ⌜ r ≡ answerOf function a b c ⌝ }
 {
     match function {

@@ -1,7 +1,8 @@
-// Sort 2: a function of numbers, at as many arguments as the case lists.
-
+// Sort 2: a function of numbers, at as many arguments as the case lists. Rests on `run` for the answers, and on `numbers` for the one
+// function that looks at all its arguments together.
 use crate::function::arity;
 use crate::run::answer_run;
+use parts::pools::Samples;
 use stream::place::Buffer;
 use stream::place::Place;
 
@@ -9,13 +10,18 @@ use stream::place::Place;
 const ALL_PLUS_ZERO: u64 = 13;
 
 // The place after some answers, and how many are left to give.
-pub struct Progress {
-    pub place: Place,
-    pub left: u64,
+struct Progress {
+    place: Place,
+    left: u64,
 }
 
 // A case, from the word after its sort on.
-pub fn answer(place: Place, input: &mut Buffer, output: &mut Buffer, samples: &mut [f64]) -> Place {
+pub(crate) fn answer(
+    place: Place,
+    input: &mut Buffer,
+    output: &mut Buffer,
+    samples: &mut Samples,
+) -> Place {
     let number = place.next(input);
     let after = number.place;
     let count = after.next(input);
@@ -90,8 +96,5 @@ fn answer_all_plus_zero(
     if place.over {
         return place;
     }
-    if numbers::zeros::all_plus_zero(&samples[0..n]) {
-        return place.write(output, 1);
-    }
-    place.write(output, 0)
+    place.write_flag(output, numbers::zeros::all_plus_zero(&samples[0..n]))
 }

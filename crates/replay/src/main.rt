@@ -1,5 +1,5 @@
-// Words in, words out: reads cases on standard input until it ends, and writes their answers on
-// standard output. FORMAT.md beside this folder defines both.
+// Words in, words out: reads cases on standard input until it ends, and writes their answers on standard output. FORMAT.md beside this
+// folder defines both. Rests on `stream` for the words; sorts 1 and 2 are answered here, the others by `parts`.
 mod function;
 mod functions;
 mod patch;
@@ -9,6 +9,9 @@ mod setting;
 mod states;
 mod window;
 
+use parts::pools::Cells;
+use parts::pools::Samples;
+use parts::pools::Zeros;
 use stream::place::Buffer;
 use stream::place::Place;
 
@@ -32,15 +35,15 @@ fn main() {
     );
 }
 
-// Answers case after case. A proved loop has to end, and nothing says that the input does: so the
-// turns are counted down, from a number that no run uses up.
+// Answers case after case. A proved loop has to end, and nothing says that the input does: so the turns are counted down, from a number
+// that no run uses up.
 fn answer_all(
     input: &mut Buffer,
     output: &mut Buffer,
-    internal: &mut [f64; 65536],
-    external: &mut [f64; 65536],
-    zeros: &mut [f64; 8192],
-    rings: &mut [f64; 131072],
+    internal: &mut Samples,
+    external: &mut Samples,
+    zeros: &mut Zeros,
+    rings: &mut Cells,
 ) {
     let mut place = Place::start();
     let mut turns = u64::MAX;
@@ -59,10 +62,10 @@ fn answer_next(
     place: Place,
     input: &mut Buffer,
     output: &mut Buffer,
-    internal: &mut [f64; 65536],
-    external: &mut [f64; 65536],
-    zeros: &mut [f64; 8192],
-    rings: &mut [f64; 131072],
+    internal: &mut Samples,
+    external: &mut Samples,
+    zeros: &mut Zeros,
+    rings: &mut Cells,
 ) -> Place {
     let next = place.next_case(input, output);
     let after = next.place;

@@ -1,4 +1,5 @@
-// A patch as a case lends it: a count and plain numbers for each stage. Buffers, sizes and slots may be bad: the engine is what refuses.
+// A patch as a case lends it: a count and plain numbers for each stage. Rests on `flat` for the stage that the numbers name. Buffers,
+// sizes and slots may be bad: the engine is what refuses.
 use engine::stage::Kind;
 use engine::stage::Patch;
 use engine::stage::Stage;
@@ -15,20 +16,20 @@ use stream::place::Buffer;
 use stream::place::Place;
 use words::number::from_word;
 
-// At most 32 stages are there, whatever the count says.
-pub struct FlatPatch {
-    pub count: usize,
-    pub stages: [FlatStage; 32],
-}
-
 // A patch, and the place after it.
-pub struct PatchRead {
-    pub place: Place,
-    pub patch: FlatPatch,
+pub(crate) struct PatchRead {
+    pub(crate) place: Place,
+    pub(crate) patch: Patch,
 }
 
-// A stage, and the place after it.
+// A stage that is known, and the place after it.
 struct StageRead {
+    place: Place,
+    stage: Stage,
+}
+
+// A stage as numbers, and the place after it.
+struct FlatRead {
     place: Place,
     stage: FlatStage,
 }
@@ -40,10 +41,10 @@ struct ParameterRead {
 }
 
 // Where the count is above 32, exactly 32 stages follow.
-pub fn read_patch(start: Place, count: usize, input: &mut Buffer) -> PatchRead {
+pub(crate) fn read_patch(start: Place, count: usize, input: &mut Buffer) -> PatchRead {
     let mut place = start;
-    let stage = no_stage();
-    let mut patch = FlatPatch {
+    let stage = silent();
+    let mut patch = Patch {
         count,
         stages: [stage; 32],
     };
@@ -61,7 +62,46 @@ pub fn read_patch(start: Place, count: usize, input: &mut Buffer) -> PatchRead {
     PatchRead { place, patch }
 }
 
-// What stands where there is no stage; nobody looks at it.
+// What stands where there is no stage, and nobody looks: a buffer is passed on to itself.
+fn silent() -> Stage {
+    Stage {
+        kind: Kind::Pass {
+            input: BufferIndex::Internal(0),
+        },
+        output: BufferIndex::Internal(0),
+        out_level: Parameter::Absent,
+    }
+}
+
+// A stage of a kind, with choices and marks, that is known; else the case is refused.
+fn read_stage(start: Place, input: &mut Buffer) -> StageRead {
+    let flat = read_flat(start, input);
+    let place = flat.place;
+    let Named::Stage(stage) = stage_of(flat.stage) else {
+        return StageRead {
+            place: place.refused(),
+            stage: silent(),
+        };
+    };
+    StageRead { place, stage }
+}
+
+// The numbers of a stage; of a kind that is not known nothing more is read.
+fn read_flat(start: Place, input: &mut Buffer) -> FlatRead {
+    let kind = start.next(input);
+    let place = kind.place;
+    let Formed::Form(form) = form_of(kind.word as usize) else {
+        return FlatRead {
+            place: place.refused(),
+            stage: no_stage(),
+        };
+    };
+    let begun = read_choices(place, kind.word as usize, form, input);
+    let wired = read_buffers(begun, form, input);
+    read_parameters(wired, form, input)
+}
+
+// What the reading of a stage begins with.
 fn no_stage() -> FlatStage {
     let absent = no_parameter();
     FlatStage {
@@ -87,39 +127,8 @@ fn no_parameter() -> FlatParameter {
     }
 }
 
-// A stage of a kind, with choices and marks, that is known; else the case is refused.
-fn read_stage(start: Place, input: &mut Buffer) -> StageRead {
-    let kind = start.next(input);
-    let place = kind.place;
-    let Formed::Form(form) = form_of(kind.word as usize) else {
-        return StageRead {
-            place: place.refused(),
-            stage: no_stage(),
-        };
-    };
-    let begun = read_choices(place, kind.word as usize, form, input);
-    let wired = read_buffers(begun, form, input);
-    let whole = read_parameters(wired, form, input);
-    let stage = whole.stage;
-    let after = whole.place;
-    if is_known(stage) {
-        return whole;
-    }
-    StageRead {
-        place: after.refused(),
-        stage,
-    }
-}
-
-fn is_known(stage: FlatStage) -> bool {
-    let Named::Stage(_) = stage_of(stage) else {
-        return false;
-    };
-    true
-}
-
 // The choices and the size, where the kind has them.
-fn read_choices(start: Place, kind: usize, form: Form, input: &mut Buffer) -> StageRead {
+fn read_choices(start: Place, kind: usize, form: Form, input: &mut Buffer) -> FlatRead {
     let choice = start.next_if(input, form.choices > 0);
     let chosen = choice.place;
     let modulation = chosen.next_if(input, form.modulations > 0);
@@ -131,11 +140,11 @@ fn read_choices(start: Place, kind: usize, form: Form, input: &mut Buffer) -> St
     stage.choice = choice.word as usize;
     stage.modulation = modulation.word as usize;
     stage.buffer_size = size.word as usize;
-    StageRead { place, stage }
+    FlatRead { place, stage }
 }
 
 // The inputs, as many as the kind has, and the output.
-fn read_buffers(start: StageRead, form: Form, input: &mut Buffer) -> StageRead {
+fn read_buffers(start: FlatRead, form: Form, input: &mut Buffer) -> FlatRead {
     let mut stage = start.stage;
     let before = start.place;
     let first = before.next_if(input, form.inputs > 0);
@@ -147,11 +156,11 @@ fn read_buffers(start: StageRead, form: Form, input: &mut Buffer) -> StageRead {
     stage.first_input = first.word as usize;
     stage.second_input = second.word as usize;
     stage.output = output.word as usize;
-    StageRead { place, stage }
+    FlatRead { place, stage }
 }
 
 // out_level, and the parameters, as many as the kind has.
-fn read_parameters(start: StageRead, form: Form, input: &mut Buffer) -> StageRead {
+fn read_parameters(start: FlatRead, form: Form, input: &mut Buffer) -> FlatRead {
     let mut stage = start.stage;
     let out_level = read_parameter(start.place, true, input);
     let first = read_parameter(out_level.place, form.parameters > 0, input);
@@ -166,7 +175,7 @@ fn read_parameters(start: StageRead, form: Form, input: &mut Buffer) -> StageRea
     stage.first = one;
     stage.second = two;
     stage.third = three;
-    StageRead { place, stage }
+    FlatRead { place, stage }
 }
 
 // A mark, and a number or a slot where the mark says so. Where no parameter is wanted, nothing is read.
@@ -184,40 +193,5 @@ fn read_parameter(start: Place, wanted: bool, input: &mut Buffer) -> ParameterRe
             slot: slot.word as usize,
             number: from_word(number.word),
         },
-    }
-}
-
-// The patch that the engine takes. Its stages were known when they were read.
-pub fn patch_of(flat: FlatPatch) -> Patch {
-    let stage = silent();
-    let mut patch = Patch {
-        count: flat.count,
-        stages: [stage; 32],
-    };
-    let mut k = 0;
-    while k < 32 {
-        let next = flat.stages[k];
-        let named = named_by(next);
-        patch.stages[k] = named;
-        k += 1;
-    }
-    patch
-}
-
-fn named_by(flat: FlatStage) -> Stage {
-    let Named::Stage(stage) = stage_of(flat) else {
-        return silent();
-    };
-    stage
-}
-
-// Passes a buffer on to itself.
-fn silent() -> Stage {
-    Stage {
-        kind: Kind::Pass {
-            input: BufferIndex::Internal(0),
-        },
-        output: BufferIndex::Internal(0),
-        out_level: Parameter::Absent,
     }
 }

@@ -10,32 +10,32 @@ use words::writer::Stored;
 use words::writer::put;
 
 // An argument, and the cursor past it.
-pub enum Argument {
+pub(crate) enum Argument {
     Number(f64, Cursor),
     Short,
 }
 
 // The arguments of one answer, and the cursor past them.
-pub enum Arguments {
+pub(crate) enum Arguments {
     Numbers(f64, f64, f64, Cursor),
     Short,
 }
 
 // One answer is given: the cursor past its arguments, and where the next answer goes.
-pub enum One {
+pub(crate) enum One {
     Given(Cursor, usize),
     Stopped,
 }
 
 // Where a run of answers stopped, and how many are left to give.
-pub struct Run {
-    pub unread: Cursor,
-    pub filled: usize,
-    pub left: u64,
+pub(crate) struct Run {
+    pub(crate) unread: Cursor,
+    pub(crate) filled: usize,
+    pub(crate) left: u64,
 }
 
 // Gives answers until all are given, the arguments end or the output is full.
-pub fn answer_run(
+pub(crate) fn answer_run(
     function: u64,
     start: Cursor,
     input: &[u8],

@@ -1,141 +1,148 @@
-// Sort 1: a session of runs. Pools, a patch and states are lent once, and window follows window over what the one before left.
-use crate::patch::FlatPatch;
+// Sort 1: a session of runs. Pools, a patch and states are lent once, and window follows window over what the one before left. Rests on
+// `patch`, `states` and `parts::pools` for what it reads, and on `window` for each window.
+ghost use Rattle.replay.specs.Lent.{Fit};
 use crate::patch::read_patch;
 use crate::states::read_states;
 use crate::window::answer_window;
+use engine::stage::Patch;
 use engine::state::States;
 use magnetron::pool::Pools;
-use parts::pools::read_contents;
+use parts::pools::Cells;
+use parts::pools::Lengths;
+use parts::pools::Samples;
+use parts::pools::Zeros;
 use parts::pools::read_marks;
 use parts::pools::read_sizes;
 use stream::place::Buffer;
 use stream::place::Place;
 
+// What is lent for the values of a window.
+pub(crate) type Values = [f64; 64];
+
 // What goes from window to window by value: the place in the streams, the pools and the states.
-pub struct Session {
-    pub place: Place,
-    pub pools: Pools,
-    pub states: States,
+pub(crate) struct Session {
+    pub(crate) place: Place,
+    pub(crate) pools: Pools,
+    pub(crate) states: States,
 }
 
-// What all windows have in common: whether answers include states and rings, and the patch.
-pub struct Common {
-    pub with_states: bool,
-    pub patch: FlatPatch,
+// What all windows have in common, beside the patch: whether answers include states and rings, and how much of each array is lent.
+pub(crate) struct Common {
+    pub(crate) with_states: bool,
+    pub(crate) lengths: Lengths,
+    pub(crate) values: usize,
+    pub(crate) rings: usize,
 }
 
-// What comes before the contents: pools of which nothing is stale yet, and the lengths of the slices.
+// What comes before the stages, with their count. Nothing is stale in the pools yet.
 struct Heading {
     place: Place,
     common: Common,
     pools: Pools,
-    internal: usize,
-    external: usize,
-    zeros: usize,
-    values: usize,
-    rings: usize,
+    count: usize,
 }
 
 // A case, from the word after its sort on. Where a slice would be longer than what is lent for it, the case is refused.
-pub fn answer(
+pub(crate) fn answer(
     start: Place,
     input: &mut Buffer,
     output: &mut Buffer,
-    internal: &mut [f64],
-    external: &mut [f64],
-    zeros: &mut [f64],
-    rings: &mut [f64],
+    internal: &mut Samples,
+    external: &mut Samples,
+    zeros: &mut Zeros,
+    rings: &mut Cells,
 ) -> Place {
     let heading = read_heading(start, input);
     let place = heading.place;
-    let inside = heading.internal;
-    let outside = heading.external;
-    let zero = heading.zeros;
-    let value = heading.values;
-    let ring = heading.rings;
-    let mut values = [0.0; 64];
-    if internal.len() < inside {
+    let common = heading.common;
+    let lengths = common.lengths;
+    if internal.len() < lengths.internal {
         return place.refused();
     }
-    if external.len() < outside {
+    if external.len() < lengths.external {
         return place.refused();
     }
-    if zeros.len() < zero {
+    if zeros.len() < lengths.zeros {
         return place.refused();
     }
-    if values.len() < value {
+    if 64 < common.values {
         return place.refused();
     }
-    if rings.len() < ring {
+    if rings.len() < common.rings {
         return place.refused();
     }
     answer_over(
         place,
-        heading.common,
-        heading.pools,
-        input,
-        output,
-        &mut internal[0..inside],
-        &mut external[0..outside],
-        &mut zeros[0..zero],
-        &mut values[0..value],
-        &mut rings[0..ring],
-    )
-}
-
-// Flags, sizes, lengths and stages.
-fn read_heading(start: Place, input: &mut Buffer) -> Heading {
-    let flags = start.next_up_to(input, 1);
-    let sizes = read_sizes(flags.place, input);
-    let sized = sizes.place;
-    let more = sized.next_words(input, 3);
-    let counts = more.at;
-    let read = read_patch(more.place, counts[2] as usize, input);
-    let place = read.place;
-    let patch = read.patch;
-    let pools = sizes.pools;
-    Heading {
-        place,
-        common: Common {
-            with_states: flags.word == 1,
-            patch,
-        },
-        pools,
-        internal: sizes.internal,
-        external: sizes.external,
-        zeros: sizes.zeros,
-        values: counts[0] as usize,
-        rings: counts[1] as usize,
-    }
-}
-
-// Contents, marks and states; then the windows.
-fn answer_over(
-    start: Place,
-    common: Common,
-    pools: Pools,
-    input: &mut Buffer,
-    output: &mut Buffer,
-    internal: &mut [f64],
-    external: &mut [f64],
-    zeros: &mut [f64],
-    values: &mut [f64],
-    rings: &mut [f64],
-) -> Place {
-    let pooled = read_contents(start, input, internal, external, zeros);
-    let filled = pooled
-        .read_samples(input, values)
-        .read_samples(input, rings);
-    let session = read_session(filled, pools, input);
-    answer_windows(
-        session,
         common,
+        heading.pools,
+        heading.count,
         input,
         output,
         internal,
         external,
         zeros,
-        values,
+        rings,
+    )
+}
+
+// Flags, sizes, lengths and the count of the stages.
+fn read_heading(start: Place, input: &mut Buffer) -> Heading {
+    let flags = start.next_up_to(input, 1);
+    let sizes = read_sizes(flags.place, input);
+    let sized = sizes.place;
+    let more = sized.next_few(input, 3);
+    let place = more.place;
+    let pools = sizes.pools;
+    let lengths = sizes.lengths;
+    Heading {
+        place,
+        common: Common {
+            with_states: flags.word == 1,
+            lengths,
+            values: more.a as usize,
+            rings: more.b as usize,
+        },
+        pools,
+        count: more.c as usize,
+    }
+}
+
+// Stages, contents, marks and states; then the windows.
+fn answer_over(
+    start: Place,
+    common: Common,
+    pools: Pools,
+    count: usize,
+    input: &mut Buffer,
+    output: &mut Buffer,
+    internal: &mut Samples,
+    external: &mut Samples,
+    zeros: &mut Zeros,
+    rings: &mut Cells,
+) -> Place
+    requires { ⌜ Fit common ⌝ }
+{
+    let lengths = common.lengths;
+    let mut values = [0.0; 64];
+    let read = read_patch(start, count, input);
+    let staged = read.place;
+    let filled = staged
+        .read_first(input, internal, lengths.internal)
+        .read_first(input, external, lengths.external)
+        .read_first(input, zeros, lengths.zeros)
+        .read_first(input, &mut values, common.values)
+        .read_first(input, rings, common.rings);
+    let session = read_session(filled, pools, input);
+    answer_windows(
+        session,
+        common,
+        read.patch,
+        input,
+        output,
+        internal,
+        external,
+        zeros,
+        &mut values,
         rings,
     )
 }
@@ -158,14 +165,17 @@ fn read_session(start: Place, pools: Pools, input: &mut Buffer) -> Session {
 fn answer_windows(
     start: Session,
     common: Common,
+    patch: Patch,
     input: &mut Buffer,
     output: &mut Buffer,
-    internal: &mut [f64],
-    external: &mut [f64],
-    zeros: &[f64],
-    values: &mut [f64],
-    rings: &mut [f64],
-) -> Place {
+    internal: &mut Samples,
+    external: &mut Samples,
+    zeros: &Zeros,
+    values: &mut Values,
+    rings: &mut Cells,
+) -> Place
+    requires { ⌜ Fit common ⌝ }
+{
     let mut session = start;
     let before = session.place;
     let count = before.next(input);
@@ -179,6 +189,7 @@ fn answer_windows(
         session = answer_window(
             session,
             common,
+            patch,
             input,
             output,
             internal,

@@ -1,4 +1,5 @@
-// What the host does with the external buffers before a window: it leaves one as it is, marks it stale, or stores samples in it.
+// What the host does with the external buffers before a window: it leaves one as it is, marks it stale, or stores samples in it. Rests on
+// `stream` for the samples; the engine is not asked.
 ghost use Prim.Native.Nat.{_≤_};
 use magnetron::pool::Pools;
 use parts::pools::Marked;
@@ -6,7 +7,7 @@ use stream::place::Buffer;
 use stream::place::Place;
 
 // One setting for each external buffer.
-pub fn set_all(
+pub(crate) fn set_all(
     start: Place,
     pools: Pools,
     n: usize,

@@ -1,4 +1,4 @@
-// The states of all stages, eleven words each, in and out.
+// The states of all stages, eleven words each, in and out. Rests on `stream` for the words and on `words` for a number's bits.
 use engine::state::State;
 use engine::state::States;
 use engine::state::new_states;
@@ -15,12 +15,12 @@ use words::number::to_word;
 const ROOM: usize = 11;
 
 // The states, and the place after them.
-pub struct StatesRead {
-    pub place: Place,
-    pub states: States,
+pub(crate) struct StatesRead {
+    pub(crate) place: Place,
+    pub(crate) states: States,
 }
 
-pub fn read_states(start: Place, input: &mut Buffer) -> StatesRead {
+pub(crate) fn read_states(start: Place, input: &mut Buffer) -> StatesRead {
     let mut place = start;
     let mut states = new_states();
     let mut k = 0;
@@ -35,7 +35,7 @@ pub fn read_states(start: Place, input: &mut Buffer) -> StatesRead {
     StatesRead { place, states }
 }
 
-pub fn write_states(start: Place, states: States, output: &mut Buffer) -> Place {
+pub(crate) fn write_states(start: Place, states: States, output: &mut Buffer) -> Place {
     let mut place = start;
     let mut k = 0;
     while k < 32 {

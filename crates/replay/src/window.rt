@@ -1,24 +1,34 @@
-// One window of a session: what the host does first, then prepare and the run, and the answer.
+// One window of a session: what the host does first, then prepare and the run, and the answer. Rests on magnetron's `prepare` and the
+// engine's `run`, which refuse what is bad.
 ghost use Prim.Native.Nat.{_≤_};
-use crate::patch::FlatPatch;
-use crate::patch::patch_of;
+ghost use lib.ListN.{length};
+ghost use Rattle.parts.specs.Lent.{Within};
+ghost use Rattle.replay.specs.Lent.{Fit};
 use crate::session::Common;
 use crate::session::Session;
+use crate::session::Values;
 use crate::setting::set_all;
 use crate::states::write_states;
 use engine::run::Ran;
 use engine::run::run;
+use engine::stage::Patch;
 use engine::state::States;
+use magnetron::check::done;
 use magnetron::pool::Pools;
 use magnetron::pool::Prepared;
 use magnetron::pool::prepare;
 use magnetron::stage::StageActivity;
+use magnetron::stage::rank;
 use magnetron::write::Answer;
+use parts::pools::Cells;
+use parts::pools::Lengths;
 use parts::pools::Marked;
+use parts::pools::Samples;
+use parts::pools::Zeros;
 use parts::pools::write_marks;
-use parts::pools::write_samples;
 use stream::place::Buffer;
 use stream::place::Place;
+use words::number::from_word;
 
 // What a window begins with, and the place after it.
 struct Opening {
@@ -52,19 +62,23 @@ struct Order {
     numbers: [u8; 64],
 }
 
-pub fn answer_window(
+// A window, from its first word on.
+pub(crate) fn answer_window(
     start: Session,
     common: Common,
+    patch: Patch,
     input: &mut Buffer,
     output: &mut Buffer,
-    internal: &mut [f64],
-    external: &mut [f64],
-    zeros: &[f64],
-    values: &mut [f64],
-    rings: &mut [f64],
-) -> Session {
+    internal: &mut Samples,
+    external: &mut Samples,
+    zeros: &Zeros,
+    values: &mut Values,
+    rings: &mut Cells,
+) -> Session
+    requires { ⌜ Fit common ⌝ }
+{
     let states = start.states;
-    let read = read_window(start.place, start.pools, input, external, values);
+    let read = read_window(start.place, start.pools, common, input, external, values);
     let place = read.place;
     let pools = read.pools;
     if place.over {
@@ -74,9 +88,11 @@ pub fn answer_window(
             states,
         };
     }
+    let asked = read.asked;
     let ran = render(
-        read.asked,
-        common.patch,
+        asked,
+        common,
+        patch,
         pools,
         states,
         internal,
@@ -85,32 +101,27 @@ pub fn answer_window(
         values,
         rings,
     );
-    write_answer(
-        place,
-        ran,
-        common.with_states,
-        output,
-        internal,
-        external,
-        rings,
-    )
+    write_answer(place, ran, common, output, internal, external, rings)
 }
 
 // All words of a window. Values and external samples go where they belong.
 fn read_window(
     start: Place,
     pools: Pools,
+    common: Common,
     input: &mut Buffer,
-    external: &mut [f64],
-    values: &mut [f64],
+    external: &mut Samples,
+    values: &mut Values,
 ) -> AskedRead
+    requires { ⌜ Fit common ⌝ }
     ensures { λ r. ⌜ r .asked .length ≤ 64 ⌝ }
 {
     let opening = open(start, input);
-    let set = set_external(opening, pools, input, external);
+    let set = set_external(opening, pools, common.lengths.external, input, external);
     let after = set.place;
     let left = set.pools;
-    let read = read_order(after.read_samples(input, values), input);
+    let filled = after.read_first(input, values, common.values);
+    let read = read_order(filled, input);
     let place = read.place;
     let order = read.numbers;
     AskedRead {
@@ -126,19 +137,20 @@ fn read_window(
     }
 }
 
+// Whether prepare comes first and buffers are set, the length and the sample width.
 fn open(start: Place, input: &mut Buffer) -> Opening {
     let does = start.next_up_to(input, 3);
     let after = does.place;
     let length = after.next(input);
     let between = length.place;
-    let width = between.next_number(input);
+    let width = between.next(input);
     let place = width.place;
     Opening {
         place,
         prepares: does.word % 2 == 1,
         sets: does.word > 1,
         n: length.word as usize,
-        width: width.value,
+        width: from_word(width.word),
     }
 }
 
@@ -146,12 +158,15 @@ fn open(start: Place, input: &mut Buffer) -> Opening {
 fn set_external(
     opening: Opening,
     pools: Pools,
+    lent: usize,
     input: &mut Buffer,
     external: &mut [f64],
-) -> Marked {
+) -> Marked
+    requires { ⌜ lent ≤ length (now external) ⌝ }
+{
     let place = opening.place;
     if opening.sets {
-        return set_all(place, pools, opening.n, input, external);
+        return set_all(place, pools, opening.n, input, &mut external[0..lent]);
     }
     Marked { place, pools }
 }
@@ -181,39 +196,28 @@ fn read_order(start: Place, input: &mut Buffer) -> Order
 // Prepare, where it is asked for, and the run, unless prepare is refused.
 fn render(
     asked: Asked,
-    patch: FlatPatch,
+    common: Common,
+    patch: Patch,
     pools: Pools,
     states: States,
-    internal: &mut [f64],
-    external: &mut [f64],
-    zeros: &[f64],
-    values: &[f64],
-    rings: &mut [f64],
+    internal: &mut Samples,
+    external: &mut Samples,
+    zeros: &Zeros,
+    values: &Values,
+    rings: &mut Cells,
 ) -> Ran
+    requires { ⌜ Fit common ⌝ }
     requires { ⌜ asked .length ≤ 64 ⌝ }
 {
-    if asked.prepares {
-        let prepared = prepare(pools, internal, external, zeros, asked.n);
-        if prepared.verdict.number != 0 {
-            return not_run(prepared, states);
-        }
-        let ready = prepared.pools;
-        return run_asked(
-            asked,
-            patch,
-            ready,
-            states,
-            internal,
-            external,
-            zeros,
-            values,
-            rings,
-        );
+    let ready = prepare_asked(asked, pools, common.lengths, internal, external, zeros);
+    if ready.verdict.number != 0 {
+        return not_run(ready, states);
     }
     run_asked(
         asked,
+        common,
         patch,
-        pools,
+        ready.pools,
         states,
         internal,
         external,
@@ -223,9 +227,40 @@ fn render(
     )
 }
 
+// The pools as prepare leaves them, or as they are where it is not asked for.
+fn prepare_asked(
+    asked: Asked,
+    pools: Pools,
+    lengths: Lengths,
+    internal: &[f64],
+    external: &[f64],
+    zeros: &[f64],
+) -> Prepared
+    requires { ⌜ Within lengths (length (now internal)) (length (now external)) (length (now zeros)) ⌝ }
+{
+    let inside = lengths.internal;
+    let outside = lengths.external;
+    let zero = lengths.zeros;
+    if asked.prepares {
+        return prepare(
+            pools,
+            &internal[0..inside],
+            &external[0..outside],
+            &zeros[0..zero],
+            asked.n,
+        );
+    }
+    Prepared {
+        verdict: done(),
+        pools,
+    }
+}
+
+// The run, lent the part of each array that the session lends.
 fn run_asked(
     asked: Asked,
-    patch: FlatPatch,
+    common: Common,
+    patch: Patch,
     pools: Pools,
     states: States,
     internal: &mut [f64],
@@ -234,22 +269,28 @@ fn run_asked(
     values: &[f64],
     rings: &mut [f64],
 ) -> Ran
-    requires { ⌜ asked .length ≤ 64 ⌝ }
+    requires { ⌜ Within (common .lengths) (length (now internal)) (length (now external)) (length (now zeros)) ⌝ }
+    requires { ⌜ (common .values ≤ length (now values)) × (common .rings ≤ length (now rings)) × (asked .length ≤ 64) ⌝ }
 {
     let order = asked.order;
     let length = asked.length;
+    let inside = common.lengths.internal;
+    let outside = common.lengths.external;
+    let zero = common.lengths.zeros;
+    let value = common.values;
+    let ring = common.rings;
     run(
-        patch_of(patch),
+        patch,
         &order[0..length],
         pools,
         states,
         asked.n,
         asked.width,
-        internal,
-        external,
-        zeros,
-        rings,
-        values,
+        &mut internal[0..inside],
+        &mut external[0..outside],
+        &zeros[0..zero],
+        &mut rings[0..ring],
+        &values[0..value],
     )
 }
 
@@ -271,19 +312,21 @@ fn not_run(prepared: Prepared, states: States) -> Ran {
 fn write_answer(
     start: Place,
     ran: Ran,
-    with_states: bool,
+    common: Common,
     output: &mut Buffer,
-    internal: &[f64],
-    external: &[f64],
-    rings: &[f64],
+    internal: &Samples,
+    external: &Samples,
+    rings: &Cells,
 ) -> Session {
+    let lengths = common.lengths;
     let pools = ran.pools;
     let states = ran.states;
-    let answered = write_outcome(start, ran.answer, output);
-    let pooled = write_samples(answered, output, internal, external);
+    let pooled = write_outcome(start, ran.answer, output)
+        .write_first(output, internal, lengths.internal)
+        .write_first(output, external, lengths.external);
     let mut place = write_marks(pooled, pools, output);
-    if with_states {
-        place = write_states(place, states, output).write_samples(output, rings);
+    if common.with_states {
+        place = write_states(place, states, output).write_first(output, rings, common.rings);
     }
     Session {
         place,
@@ -295,16 +338,8 @@ fn write_answer(
 // A number, a stage, an activity.
 fn write_outcome(start: Place, answer: Answer, output: &mut Buffer) -> Place {
     let activity = answer.activity;
-    let number = start.write(output, answer.number as u64);
-    let stage = number.write(output, answer.stage as u64);
-    stage.write(output, rank_of(activity))
-}
-
-fn rank_of(activity: StageActivity) -> u64 {
-    match activity {
-        StageActivity::Exhausted => 0,
-        StageActivity::Internal => 1,
-        StageActivity::External => 2,
-        StageActivity::Observer => 3,
-    }
+    start
+        .write(output, answer.number as u64)
+        .write(output, answer.stage as u64)
+        .write(output, rank(activity) as u64)
 }

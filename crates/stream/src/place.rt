@@ -1,11 +1,9 @@
-// The two streams of words. Standard input is read into one lent buffer, and what goes to standard
-// output is gathered in another, so that one call moves many words.
+// The two streams of words. Standard input is read into one lent buffer, and what goes to standard output is gathered in another, so that
+// one call moves many words. Rests on `words` for what a word is; no contract can say what is read or written.
 ghost use Prim.Native.Nat.{_-_, _≤_};
 ghost use lib.ListN.{length};
 use libc::STDIN_FILENO;
 use libc::STDOUT_FILENO;
-use words::number::from_word;
-use words::number::to_word;
 use words::reader::Cursor;
 use words::reader::Taken;
 use words::writer::Stored;
@@ -14,8 +12,8 @@ use words::writer::pour;
 // What is read at once, and what is gathered before it is sent.
 pub type Buffer = [u8; 65536];
 
-// What is unread of the input's buffer, how many bytes of the output's are to be sent, and whether
-// all is over: the input has ended, a write failed, or a case is refused.
+// What is unread of the input's buffer, how many bytes of the output's are to be sent, and whether all is over: the input has ended, a
+// write failed, or a case is refused.
 pub struct Place {
     pub unread: Cursor,
     pub filled: usize,
@@ -35,12 +33,6 @@ pub struct Words {
     pub at: [u64; 16],
 }
 
-// A number of the input and the place after it.
-pub struct Number {
-    pub place: Place,
-    pub value: f64,
-}
-
 // Up to three words of the input and the place after them. A word that was not asked for is 0.
 pub struct Few {
     pub place: Place,
@@ -50,6 +42,7 @@ pub struct Few {
 }
 
 impl Place {
+    // Nothing is read yet, and nothing is to be sent.
     pub fn start() -> Place {
         Place {
             unread: Cursor { at: 0, end: 0 },
@@ -157,16 +150,6 @@ impl Place {
         Words { place, at }
     }
 
-    // A word inside a case that is a number's bits.
-    pub fn next_number(self, input: &mut Buffer) -> Number {
-        let next = self.next(input);
-        let place = next.place;
-        Number {
-            place,
-            value: from_word(next.word),
-        }
-    }
-
     // All the samples are read.
     pub fn read_samples(self, input: &mut Buffer, samples: &mut [f64]) -> Place {
         let mut place = self;
@@ -183,6 +166,14 @@ impl Place {
             count = filled.next;
         }
         place
+    }
+
+    // The first samples are read; where there are not so many, the case is refused.
+    pub fn read_first(self, input: &mut Buffer, samples: &mut [f64], length: usize) -> Place {
+        if samples.len() < length {
+            return self.refused();
+        }
+        self.read_samples(input, &mut samples[0..length])
     }
 
     // At least `want` bytes are unread, or the input has ended.
@@ -217,11 +208,6 @@ impl Place {
         self.write(output, 0)
     }
 
-    // One more word of answers: a number's bits.
-    pub fn write_number(self, output: &mut Buffer, number: f64) -> Place {
-        self.write(output, to_word(number))
-    }
-
     // All the samples are written.
     pub fn write_samples(self, output: &mut Buffer, samples: &[f64]) -> Place {
         let mut place = self;
@@ -239,6 +225,14 @@ impl Place {
         place
     }
 
+    // The first samples are written; where there are not so many, the case is refused.
+    pub fn write_first(self, output: &mut Buffer, samples: &[f64], length: usize) -> Place {
+        if samples.len() < length {
+            return self.refused();
+        }
+        self.write_samples(output, &samples[0..length])
+    }
+
     // The first `count` of sixteen words are written.
     pub fn write_words(self, output: &mut Buffer, words: [u64; 16], count: usize) -> Place {
         let mut place = self;
@@ -253,8 +247,7 @@ impl Place {
         place
     }
 
-    // There is room for a word of answers, and none is held back while the program waits for `want`
-    // bytes.
+    // There is room for a word of answers, and none is held back while the program waits for `want` bytes.
     pub fn cleared(self, output: &Buffer, want: usize) -> Place {
         let unread = self.unread;
         if unread.left() < want {
@@ -280,8 +273,7 @@ impl Place {
     }
 }
 
-// What is unread moves to the front, and more is read behind it, until `want` bytes are there or the
-// input ends.
+// What is unread moves to the front, and more is read behind it, until `want` bytes are there or the input ends.
 fn refill(unread: Cursor, input: &mut [u8], want: usize) -> Cursor {
     let front = unread.front(input);
     let mut end = front.end;

@@ -1,13 +1,20 @@
 -- `replay::function::answer` meets its contract: in each arm the function's number is known, and so is what it answers. Assumes nothing.
-use mathlib.Core.Path.{ap, _∙_}
+use mathlib.Core.Path.{_≡_, ap, _∙_}
+use Prim.Native.Nat.{ℕ}
 use borrow.Author.Needs.{needs}
-use lib.ListN.{List·getD-eq-default}
+use lib.Ieee.{Float}
+use lib.ListN.{getD, List·getD-eq-default}
 use Rattle.numbers.specs.declared.ceil.Up.{Up}
 use Rattle.words.specs.Number.{toWord}
 use Rattle.replay.specs.Function.{answers, answerOf}
 use Rattle.replay.proofs.Past.{past}
 use Rattle.replay.proofs.function.answer.Statement.{statement}
 use Rattle.replay.proofs.function.answer.Tie as tie
+
+-- the answer is what the table has at the function's number
+listed : (f k : ℕ) (a b c : Float) (w : ℕ) → f ≡ k → w ≡ getD answers k (λ a b c. 0) a b c → w ≡ answerOf f a b c
+unfolding answerOf
+listed f k a b c w e h = rw e h
 
 maximum-requires : tie.Need-maximum-requires
 maximum-requires c κs = search needs
@@ -85,59 +92,46 @@ to-word-requires-12 : tie.Need-to-word-requires-12
 to-word-requires-12 c κs = search needs
 
 returns : tie.Need-returns
-unfolding answerOf answers
-returns c = rw (c .before .before .match .keys1) (c .to-word .ensures ∙ ap toWord (c .before .maximum .ensures))
+returns c = listed _ 0 _ _ _ _ (c .before .before .match .keys1) (c .to-word .ensures ∙ ap toWord (c .before .maximum .ensures))
 
 returns-2 : tie.Need-returns-2
-unfolding answerOf answers
-returns-2 c = rw (c .before .before .match .keys2) (c .to-word2 .ensures ∙ ap toWord (c .before .minimum .ensures))
+returns-2 c = listed _ 1 _ _ _ _ (c .before .before .match .keys2) (c .to-word2 .ensures ∙ ap toWord (c .before .minimum .ensures))
 
 returns-3 : tie.Need-returns-3
-unfolding answerOf answers
-returns-3 c = rw (c .before .before .match .keys3) (c .to-word3 .ensures ∙ ap toWord (c .before .held .ensures))
+returns-3 c = listed _ 2 _ _ _ _ (c .before .before .match .keys3) (c .to-word3 .ensures ∙ ap toWord (c .before .held .ensures))
 
 returns-4 : tie.Need-returns-4
-unfolding answerOf answers
-returns-4 c = rw (c .before .before .match .keys4) (c .to-word4 .ensures ∙ ap toWord (c .before .absolute .ensures))
+returns-4 c = listed _ 3 _ _ _ _ (c .before .before .match .keys4) (c .to-word4 .ensures ∙ ap toWord (c .before .absolute .ensures))
 
 returns-5 : tie.Need-returns-5
-unfolding answerOf answers
-returns-5 c = rw (c .before .before .match .keys5) (c .to-word5 .ensures ∙ ap toWord (c .before .copysign .ensures))
+returns-5 c = listed _ 4 _ _ _ _ (c .before .before .match .keys5) (c .to-word5 .ensures ∙ ap toWord (c .before .copysign .ensures))
 
 returns-6 : tie.Need-returns-6
-unfolding answerOf answers
-returns-6 c = rw (c .before .before .match .keys6) (c .to-word6 .ensures ∙ ap toWord (c .before .recip .ensures))
+returns-6 c = listed _ 5 _ _ _ _ (c .before .before .match .keys6) (c .to-word6 .ensures ∙ ap toWord (c .before .recip .ensures))
 
 returns-7 : tie.Need-returns-7
-unfolding answerOf answers
-returns-7 c = rw (c .before .before .match .keys7) (c .to-word7 .ensures ∙ ap toWord (c .before .whole-part .ensures))
+returns-7 c = listed _ 6 _ _ _ _ (c .before .before .match .keys7) (c .to-word7 .ensures ∙ ap toWord (c .before .whole-part .ensures))
 
 returns-8 : tie.Need-returns-8
-unfolding answerOf answers
-returns-8 c = rw (c .before .before .match .keys8) (c .to-word8 .ensures ∙ ap toWord (c .before .fract .ensures))
+returns-8 c = listed _ 7 _ _ _ _ (c .before .before .match .keys8) (c .to-word8 .ensures ∙ ap toWord (c .before .fract .ensures))
 
 returns-9 : tie.Need-returns-9
-unfolding answerOf answers
-returns-9 c = rw (c .before .before .match .keys9) (c .to-word9 .ensures ∙ ap toWord (c .before .rem-euclid-one .ensures))
+returns-9 c = listed _ 8 _ _ _ _ (c .before .before .match .keys9) (c .to-word9 .ensures ∙ ap toWord (c .before .rem-euclid-one .ensures))
 
 returns-10 : tie.Need-returns-10
-unfolding answerOf answers
-returns-10 c = rw (c .before .match .keys10) (c .round-up .ensures)
+returns-10 c = listed _ 9 _ _ _ _ (c .before .match .keys10) (c .round-up .ensures)
 
 returns-11 : tie.Need-returns-11
-unfolding answerOf answers
-returns-11 c = rw (c .before .before .match .keys11) (c .to-word10 .ensures ∙ ap (λ (u : Up). toWord (u .gap)) (c .before .rounded-up .ensures))
+returns-11 c = listed _ 10 _ _ _ _ (c .before .before .match .keys11) (c .to-word10 .ensures ∙ ap (λ (u : Up). toWord (u .gap)) (c .before .rounded-up .ensures))
 
 returns-12 : tie.Need-returns-12
-unfolding answerOf answers
-returns-12 c = rw (c .before .before .match .keys12) (c .to-word11 .ensures ∙ ap toWord (c .before .sine-turns .ensures))
+returns-12 c = listed _ 11 _ _ _ _ (c .before .before .match .keys12) (c .to-word11 .ensures ∙ ap toWord (c .before .sine-turns .ensures))
 
 returns-13 : tie.Need-returns-13
-unfolding answerOf answers
-returns-13 c = rw (c .before .before .match .keys13) (c .to-word12 .ensures ∙ ap toWord (c .before .cosine-turns .ensures))
+returns-13 c = listed _ 12 _ _ _ _ (c .before .before .match .keys13) (c .to-word12 .ensures ∙ ap toWord (c .before .cosine-turns .ensures))
 
 returns-14 : tie.Need-returns-14
-unfolding answerOf answers
+unfolding answerOf
 returns-14 c = rw (List·getD-eq-default answers _ (past 13 (c .before .args .function) (c .match .rest)))
 
 pub answer-spec : {M : Type 1} → statement M

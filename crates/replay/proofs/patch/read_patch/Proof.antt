@@ -10,8 +10,8 @@ Inv-loop count input₀ place₀ patch₀ k₀ input place patch k = Unit
 abbrev μ-loop : tie.MeasureT-loop
 μ-loop count input₀ place₀ patch₀ k₀ input place patch k = 32 - k
 
-no-stage-requires : tie.Need-no-stage-requires Inv-loop μ-loop
-no-stage-requires c κs = search needs
+silent-requires : tie.Need-silent-requires Inv-loop μ-loop
+silent-requires c κs = search needs
 
 loop-holds : tie.Need-loop-holds Inv-loop μ-loop
 loop-holds c = search needs
@@ -46,7 +46,7 @@ read-patch-spec =
     (tie.spec
     Inv-loop
     μ-loop
-    no-stage-requires
+    silent-requires
     loop-holds
     returns
     read-stage-requires

@@ -1,38 +1,34 @@
--- `replay::session::answer_over` is safe: what its callees are lent comes back as long as it was. Assumes nothing.
-use mathlib.Core.Path.{_∙_}
+-- `replay::session::answer_over` is safe: the lengths are those that it was called with. Assumes nothing.
 use borrow.Author.Needs.{needs}
 use Rattle.replay.proofs.session.answer_over.Statement.{statement}
 use Rattle.replay.proofs.session.answer_over.Tie as tie
 
-read-contents-requires : tie.Need-read-contents-requires
-read-contents-requires c κs = search needs
+read-patch-requires : tie.Need-read-patch-requires
+read-patch-requires c κs = search needs
 
-read-samples-requires : tie.Need-read-samples-requires
-read-samples-requires c κs = search needs
+read-first-requires : tie.Need-read-first-requires
+read-first-requires c κs = search needs
 
-read-samples-requires-2 : tie.Need-read-samples-requires-2
-read-samples-requires-2 c κs = search needs
+read-first-requires-2 : tie.Need-read-first-requires-2
+read-first-requires-2 c κs = search needs
+
+read-first-requires-3 : tie.Need-read-first-requires-3
+read-first-requires-3 c κs = search needs
+
+slice-aggregate-read-first : tie.Need-slice-aggregate-read-first
+slice-aggregate-read-first c = search needs
+
+read-first-requires-4 : tie.Need-read-first-requires-4
+read-first-requires-4 c κs = search needs
+
+read-first-requires-5 : tie.Need-read-first-requires-5
+read-first-requires-5 c κs = search needs
 
 read-session-requires : tie.Need-read-session-requires
 read-session-requires c κs = search needs
 
 answer-windows-requires : tie.Need-answer-windows-requires
-answer-windows-requires c κs = search needs
-
-same-length : tie.Need-same-length
-same-length c = (c .before .before .before .before .before .before .before .before .answer-windows .kept .1 .1 .1 .1 .0) ∙ (c .before .before .before .before .before .before .before .before .before .before .before .before .before .before .before .before .before .before .before .before .before .before .before .before .before .before .before .before .before .before .before .before .before .before .read-contents .kept .1 .1 .0)
-
-same-length-2 : tie.Need-same-length-2
-same-length-2 c = (c .before .before .before .before .before .before .before .before .answer-windows .kept .1 .1 .1 .1 .1 .0) ∙ (c .before .before .before .before .before .before .before .before .before .before .before .before .before .before .before .before .before .before .before .before .before .before .before .before .before .before .before .before .before .before .before .before .before .before .read-contents .kept .1 .1 .1 .0)
-
-same-length-3 : tie.Need-same-length-3
-same-length-3 c = (c .before .before .before .before .before .before .before .before .before .before .before .before .before .before .before .before .before .before .before .before .before .before .before .before .before .before .before .before .before .before .before .before .before .before .read-contents .kept .1 .1 .1 .1 .0)
-
-same-length-4 : tie.Need-same-length-4
-same-length-4 c = (c .before .before .before .before .before .before .before .before .answer-windows .kept .1 .1 .1 .1 .1 .1 .1 .0) ∙ (c .before .before .before .before .before .before .before .before .before .before .before .before .before .before .before .before .before .before .before .before .before .before .before .before .before .read-samples .kept .1 .1 .0)
-
-same-length-5 : tie.Need-same-length-5
-same-length-5 c = search needs
+answer-windows-requires c κs = c .before .before .before .before .before .before .before .before .before .before .before .before .before .before .before .before .before .before .before .before .before .before .before .before .before .before .before .before .before .pre
 
 returns : tie.Need-returns
 returns c = search needs
@@ -41,14 +37,13 @@ pub answer-over-spec : {M : Type 1} → statement M
 answer-over-spec =
     tie.close
     (tie.spec
-    read-contents-requires
-    read-samples-requires
-    read-samples-requires-2
+    read-patch-requires
+    read-first-requires
+    read-first-requires-2
+    read-first-requires-3
+    slice-aggregate-read-first
+    read-first-requires-4
+    read-first-requires-5
     read-session-requires
     answer-windows-requires
-    same-length
-    same-length-2
-    same-length-3
-    same-length-4
-    same-length-5
     returns)

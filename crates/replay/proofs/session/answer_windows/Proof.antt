@@ -1,33 +1,20 @@
 -- `replay::session::answer_windows` is safe and ends: each turn leaves one window fewer. Assumes nothing.
-use mathlib.Core.Path.{_≡_}
 use borrow.Author.Needs.{needs}
-use lib.ListN.{length}
+use Rattle.replay.specs.Lent.{Fit}
 use Rattle.replay.proofs.session.answer_windows.Statement.{statement}
 use Rattle.replay.proofs.session.answer_windows.Tie as tie
 
 abbrev Inv-loop : tie.InvT-loop
-Inv-loop common input₀ output₀ internal₀ external₀ zeros values₀ rings₀ session₀ place₀ left₀ input output internal external values rings session place left = (length internal ≡ length internal₀) × (length external ≡ length external₀) × (length values ≡ length values₀) × (length rings ≡ length rings₀)
+Inv-loop common patch input₀ output₀ internal₀ external₀ zeros values₀ rings₀ session₀ place₀ left₀ input output internal external values rings session place left = Fit common
 
 abbrev μ-loop : tie.MeasureT-loop
-μ-loop common input₀ output₀ internal₀ external₀ zeros values₀ rings₀ session₀ place₀ left₀ input output internal external values rings session place left = left
+μ-loop common patch input₀ output₀ internal₀ external₀ zeros values₀ rings₀ session₀ place₀ left₀ input output internal external values rings session place left = left
 
 next-requires : tie.Need-next-requires Inv-loop μ-loop
 next-requires c κs = search needs
 
 loop-holds : tie.Need-loop-holds Inv-loop μ-loop
 loop-holds c = search needs
-
-same-length : tie.Need-same-length Inv-loop μ-loop
-same-length c = search needs
-
-same-length-2 : tie.Need-same-length-2 Inv-loop μ-loop
-same-length-2 c = search needs
-
-same-length-3 : tie.Need-same-length-3 Inv-loop μ-loop
-same-length-3 c = search needs
-
-same-length-4 : tie.Need-same-length-4 Inv-loop μ-loop
-same-length-4 c = search needs
 
 returns : tie.Need-returns Inv-loop μ-loop
 returns c = search needs
@@ -44,18 +31,6 @@ loop-less c = search needs
 loop-again : tie.Need-loop-again Inv-loop μ-loop
 loop-again c = search needs
 
-same-length-5 : tie.Need-same-length-5 Inv-loop μ-loop
-same-length-5 c = search needs
-
-same-length-6 : tie.Need-same-length-6 Inv-loop μ-loop
-same-length-6 c = search needs
-
-same-length-7 : tie.Need-same-length-7 Inv-loop μ-loop
-same-length-7 c = search needs
-
-same-length-8 : tie.Need-same-length-8 Inv-loop μ-loop
-same-length-8 c = search needs
-
 returns-2 : tie.Need-returns-2 Inv-loop μ-loop
 returns-2 c = search needs
 
@@ -67,17 +42,9 @@ answer-windows-spec =
     μ-loop
     next-requires
     loop-holds
-    same-length
-    same-length-2
-    same-length-3
-    same-length-4
     returns
     answer-window-requires
     sub-left
     loop-less
     loop-again
-    same-length-5
-    same-length-6
-    same-length-7
-    same-length-8
     returns-2)

@@ -7,9 +7,6 @@ use borrow.Author.Needs.{needs}
 use Rattle.replay.proofs.window.run_asked.Statement.{statement}
 use Rattle.replay.proofs.window.run_asked.Tie as tie
 
-patch-of-requires : tie.Need-patch-of-requires
-patch-of-requires c κs = search needs
-
 sub-run : tie.Need-sub-run
 sub-run c = search needs
 
@@ -18,11 +15,56 @@ part-run-start c = search needs
 
 part-run-end : tie.Need-part-run-end
 part-run-end c =
-    let s = c .before .before .before .before .before .before .before .before in
-    let held : s .args .asked .length ≤ 64 = s .pre in
+    let s = c .before .before .before .before .before .before .before in
+    let held : s .args .asked .length ≤ 64 = s .pre .1 .2 in
     let room : length (s .args .asked .order) ≡ 64 = sym (length-map (s .args .asked .order) (λ x. x)) ∙ s .good .0 .1 .1 .1 .1 .1 .1 .0 .1 .0 .1 in
     let fits : s .args .asked .length ≤ length (s .args .asked .order) = omega arith in
     fits
+
+sub-run-2 : tie.Need-sub-run-2
+sub-run-2 c = search needs
+
+part-run-start-2 : tie.Need-part-run-start-2
+part-run-start-2 c = search needs
+
+part-run-end-2 : tie.Need-part-run-end-2
+part-run-end-2 c = search needs
+
+sub-run-3 : tie.Need-sub-run-3
+sub-run-3 c = search needs
+
+part-run-start-3 : tie.Need-part-run-start-3
+part-run-start-3 c = search needs
+
+part-run-end-3 : tie.Need-part-run-end-3
+part-run-end-3 c = search needs
+
+sub-run-4 : tie.Need-sub-run-4
+sub-run-4 c = search needs
+
+part-run-start-4 : tie.Need-part-run-start-4
+part-run-start-4 c = search needs
+
+part-run-end-4 : tie.Need-part-run-end-4
+part-run-end-4 c = search needs
+
+sub-run-5 : tie.Need-sub-run-5
+sub-run-5 c = search needs
+
+part-run-start-5 : tie.Need-part-run-start-5
+part-run-start-5 c = search needs
+
+part-run-end-5 : tie.Need-part-run-end-5
+part-run-end-5 c = search needs
+
+sub-run-6 : tie.Need-sub-run-6
+sub-run-6 c = search needs
+
+part-run-start-6 : tie.Need-part-run-start-6
+part-run-start-6 c = search needs
+
+part-run-end-6 : tie.Need-part-run-end-6
+part-run-end-6 c = search needs
 
 run-requires : tie.Need-run-requires
 run-requires c κs = search needs
@@ -43,10 +85,24 @@ pub run-asked-spec : {M : Type 1} → statement M
 run-asked-spec =
     tie.close
     (tie.spec
-    patch-of-requires
     sub-run
     part-run-start
     part-run-end
+    sub-run-2
+    part-run-start-2
+    part-run-end-2
+    sub-run-3
+    part-run-start-3
+    part-run-end-3
+    sub-run-4
+    part-run-start-4
+    part-run-end-4
+    sub-run-5
+    part-run-start-5
+    part-run-end-5
+    sub-run-6
+    part-run-start-6
+    part-run-end-6
     run-requires
     same-length
     same-length-2

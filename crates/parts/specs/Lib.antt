@@ -1,0 +1,2 @@
+-- What the contracts cite: the lengths of the slices that a case lends. Assumes nothing.
+pub mod Lent
