@@ -184,6 +184,7 @@ fn operate(
     write_end(place, sort, pools, lengths, output, internal, external)
 }
 
+// One operation: what it asks for, what it does, and its answer.
 fn answer_one(
     start: Marked,
     sort: u64,

@@ -74,30 +74,20 @@ fn answer_next(
     }
     let sort = next.word;
     match sort {
-        1 => {
-            return session::answer(after, input, output, internal, external, zeros, rings);
-        }
-        2 => {
-            return functions::answer(after, input, output, internal);
-        }
-        3..=7 => {
-            return parts::device::answer(after, sort, input, output, rings);
-        }
-        8..=9 => {
-            return parts::single::answer(
-                after,
-                sort,
-                input,
-                output,
-                internal,
-                external,
-                zeros,
-                rings,
-            );
-        }
-        _ => {
-            return after.refused();
-        }
+        1 => session::answer(after, input, output, internal, external, zeros, rings),
+        2 => functions::answer(after, input, output, internal),
+        3..=7 => parts::device::answer(after, sort, input, output, rings),
+        8..=9 => parts::single::answer(
+            after,
+            sort,
+            input,
+            output,
+            internal,
+            external,
+            zeros,
+            rings,
+        ),
+        _ => after.refused(),
     }
 }
 

@@ -65,10 +65,7 @@ pub(crate) fn answer(
     if zeros.len() < lengths.zeros {
         return place.refused();
     }
-    if 64 < common.values {
-        return place.refused();
-    }
-    if rings.len() < common.rings {
+    if 64 < common.values || rings.len() < common.rings {
         return place.refused();
     }
     answer_over(
