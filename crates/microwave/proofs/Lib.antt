@@ -3,6 +3,7 @@
 pub mod Asked
 pub mod Refused
 pub mod ClipEdges
+pub mod BandPassEdge
 pub mod OscillatorEdges
 pub mod Fields
 pub mod Cookbook

@@ -10,4 +10,5 @@ pub mod WholePart
 pub mod RoundUp
 pub mod Offset
 pub mod Horner
+pub mod Edges
 pub mod Determined
