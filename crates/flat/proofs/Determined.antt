@@ -2,11 +2,10 @@
 -- is written here. Assumes nothing.
 use Rattle.numbers.specs.Outcome.{Answer, by-definition}
 use Rattle.flat.proofs.form.form_of.Reads as form-of
-use Rattle.flat.proofs.stage.buffer_of.Reads as buffer-of
 use Rattle.flat.proofs.stage.stage_of.Reads as stage-of
 
 pub form-determined : Answer form-of.Post
 form-determined = by-definition
 
-pub stage-determined : Answer buffer-of.Post × Answer stage-of.Post
-stage-determined = (by-definition, by-definition)
+pub stage-determined : Answer stage-of.Post
+stage-determined = by-definition

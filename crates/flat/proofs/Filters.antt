@@ -7,7 +7,8 @@ use Rattle.microwave.specs.declared.parameter.Parameter.{Parameter}
 use Rattle.microwave.specs.declared.filter.FilterType.{FilterType}
 use Rattle.engine.specs.declared.stage.Kind.the-variants.{Filter, RingModulator}
 use Rattle.flat.specs.declared.stage.FlatStage.{FlatStage}
-use Rattle.flat.specs.Stage.{bufferOf, parameterOf, filterOf, filtered, kinds, kindOf}
+use Rattle.magnetron.specs.Buffers.{bufferOf}
+use Rattle.flat.specs.Stage.{parameterOf, filterOf, filtered, kinds, kindOf}
 
 module _ (f : FlatStage) (n : ℕ) (is : f .kind ≡ n)
     (listed : getD (kinds f) n (RingModulator (bufferOf (f .«first_input»)) (bufferOf (f .«second_input»))) ≡ filtered f) where

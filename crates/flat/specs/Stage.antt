@@ -1,12 +1,11 @@
 -- Which stage plain numbers name. Tables are read from number 0 on; past its end the last entry stands, and `namedOf` lets no such number through.
 -- Assumes nothing.
-use Prim.Native.Nat.{ℕ, _-_, _%_, _/_}
+use Prim.Native.Nat.{ℕ, _-_}
 use mathlib.Core.Bool.{Bool, true, cond, _&&_}
 use mathlib.Core.List.{List, [], _∷_}
 use lib.Dec.{ltb, eqb}
 use lib.ListN.{getD}
-use Rattle.magnetron.specs.declared.buffer.BufferIndex.{BufferIndex}
-use Rattle.magnetron.specs.declared.buffer.BufferIndex.the-variants.{Internal, External}
+use Rattle.magnetron.specs.Buffers.{bufferOf}
 use Rattle.microwave.specs.declared.parameter.Parameter.{Parameter}
 use Rattle.microwave.specs.declared.parameter.Parameter.the-variants.{Fixed, Slot, WindowSeconds, Absent}
 use Rattle.microwave.specs.declared.filter.FilterType.{FilterType}
@@ -30,10 +29,6 @@ use Rattle.flat.specs.declared.stage.FlatStage.{FlatStage}
 use Rattle.flat.specs.declared.stage.Named.{Named}
 use Rattle.flat.specs.declared.stage.Named.the-variants as named
 use Rattle.flat.specs.Form.{formedOf}
-
--- twice its index, plus one if external
-abbrev pub bufferOf : ℕ → BufferIndex
-bufferOf number = cond (eqb (number % 2) 0) (Internal (number / 2)) (External (number / 2))
 
 -- by its mark: absent, the number, the slot, the window's seconds
 unfoldable pub parameterOf : FlatParameter → Parameter

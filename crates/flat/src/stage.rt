@@ -4,7 +4,7 @@ use crate::form::Formed;
 use crate::form::form_of;
 use engine::stage::Kind;
 use engine::stage::Stage;
-use magnetron::buffer::BufferIndex;
+use magnetron::buffer::buffer_of;
 use microwave::filter::FilterType;
 use microwave::oscillator::Modulation;
 use microwave::oscillator::OscillatorSpec;
@@ -13,7 +13,7 @@ use microwave::parameter::Parameter;
 use microwave::waveguide::Reflectance;
 use microwave::waveguide::WaveguideSpec;
 ghost use mathlib.Core.Path.{_≡_};
-ghost use Rattle.flat.specs.Stage.{bufferOf, parameterOf, waveformOf, modulationOf, reflectanceOf, filterOf, oscillatorOf, waveguideOf, kindOf, chosenOf, markedOf, knownOf, namedOf};
+ghost use Rattle.flat.specs.Stage.{parameterOf, waveformOf, modulationOf, reflectanceOf, filterOf, oscillatorOf, waveguideOf, kindOf, chosenOf, markedOf, knownOf, namedOf};
 
 // A parameter, by its mark: 0 absent, 1 the number, 2 the slot, 3 the window's seconds.
 #[repr(C)]
@@ -42,16 +42,6 @@ pub struct FlatStage {
 pub enum Named {
     Stage(Stage),
     Unknown,
-}
-
-// The buffer of a number: twice its index, plus one if external.
-pub fn buffer_of(number: usize) -> BufferIndex
-    ensures { λ r. ⌜ r ≡ bufferOf number ⌝ }
-{
-    if number % 2 == 0 {
-        return BufferIndex::Internal(number / 2);
-    }
-    BufferIndex::External(number / 2)
 }
 
 // Here and in the choices below, the last arm takes each number past the table too: `known` lets none of those through.

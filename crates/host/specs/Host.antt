@@ -1,5 +1,5 @@
 -- What the exported functions answer and leave, for any input. Assumes nothing.
---     an activity leaves as its rank, a buffer comes as its number      answerOf; bufferOf, of flat
+--     an activity leaves as its rank, a buffer comes as its number      answerOf; bufferOf, of magnetron
 --     a single write                                                    writeOf, of magnetron; flatWriteOf
 --     A RUN                                                             runOf, of engine; flatRunOf
 use Prim.Native.Nat.{ℕ}
@@ -9,6 +9,7 @@ use lib.Dec.{eqb}
 use lib.Ieee.{Float}
 use Rattle.numbers.specs.Outcome.{Outcome, outcome}
 use Rattle.magnetron.specs.Activity.{rankOf}
+use Rattle.magnetron.specs.Buffers.{bufferOf}
 use Rattle.magnetron.specs.Single.{Lent, writeOf, Left as Written}
 use Rattle.magnetron.specs.declared.check.Verdict.{Verdict}
 use Rattle.magnetron.specs.declared.input.Inputs.{Inputs}
@@ -22,7 +23,6 @@ use Rattle.util.specs.declared.delay_line.Moved.{Moved}
 use Rattle.engine.specs.declared.run.Ran.{Ran}
 use Rattle.engine.specs.declared.state.States.{States}
 use Rattle.engine.specs.Run.{runOf, Left as Rendered}
-use Rattle.flat.specs.Stage.{bufferOf}
 use Rattle.host.specs.declared.patch.FlatPatch.{FlatPatch}
 use Rattle.host.specs.declared.run.FlatAnswer.{FlatAnswer}
 use Rattle.host.specs.declared.run.FlatRan.{FlatRan}

@@ -2,7 +2,7 @@
 // Rests on `magnetron` for the work. A single read is not exported: a slice cannot be handed back, and the host finds the samples by the mark.
 use crate::run::FlatAnswer;
 use crate::run::answer_of;
-use flat::stage::buffer_of;
+use magnetron::buffer::buffer_of;
 use magnetron::check::Verdict;
 use magnetron::input::Inputs;
 use magnetron::pool::Made;
@@ -13,10 +13,10 @@ use magnetron::write::Wrote;
 ghost use mathlib.Core.Path.{_≡_};
 ghost use mathlib.Core.List.{[]};
 ghost use Rattle.numbers.specs.Outcome.{outcome};
+ghost use Rattle.magnetron.specs.Buffers.{bufferOf};
 ghost use Rattle.magnetron.specs.Checks.{verdictOf};
 ghost use Rattle.magnetron.specs.Single.{lent, newPoolOf, preparedOf, readFault};
 ghost use Rattle.magnetron.specs.declared.input.Inputs.the-variants as inputs;
-ghost use Rattle.flat.specs.Stage.{bufferOf};
 ghost use Rattle.host.specs.Host.{levelIn, wroteOf, leftWritten, flatWriteOf};
 
 // What a single write answers, and the pools with its output's mark cleared.

@@ -6,6 +6,7 @@ use Rattle.magnetron.specs.Single.{left}
 use Rattle.magnetron.proofs.stage.rank.Reads as rank
 use Rattle.magnetron.proofs.stage.greater.Reads as greater
 use Rattle.magnetron.proofs.buffer.BufferIndex.stage_activity.Reads as stage-activity
+use Rattle.magnetron.proofs.buffer.buffer_of.Reads as buffer-of
 use Rattle.magnetron.proofs.buffer.same_buffer.Reads as same-buffer
 use Rattle.magnetron.proofs.buffer.Marks.at.Reads as at
 use Rattle.magnetron.proofs.buffer.Marks.written.Reads as written
@@ -39,8 +40,8 @@ use Rattle.magnetron.proofs.read.read.Reads as read
 pub stage-determined : Answer rank.Post × Answer greater.Post
 stage-determined = (by-definition, by-definition)
 
-pub buffer-determined : Answer stage-activity.Post × Answer same-buffer.Post × Answer at.Post × Answer written.Post
-buffer-determined = (by-definition, by-definition, by-definition, by-definition)
+pub buffer-determined : Answer stage-activity.Post × Answer buffer-of.Post × Answer same-buffer.Post × Answer at.Post × Answer written.Post
+buffer-determined = (by-definition, by-definition, by-definition, by-definition, by-definition)
 
 pub pool-determined : Answer marks.Post × Answer with-marks.Post × Answer set-reset.Post × Answer base-of.Post
     × Determined (λ r s. now (s .0)) fill-with-zeros.Post × Determined (λ r s. outcome r (now (s .1 .1 .0))) new-pool.Post × Answer prepare.Post

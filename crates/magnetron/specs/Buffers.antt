@@ -3,7 +3,7 @@
 -- Assumes nothing.
 use mathlib.Core.Bool.{Bool, true, false, not, cond, _&&_, _||_}
 use mathlib.Core.List.{List, [], _∷_, zipWith}
-use Prim.Native.Nat.{ℕ, _*_}
+use Prim.Native.Nat.{ℕ, _*_, _/_, _%_}
 use lib.Dec.{eqb}
 use lib.ListN.{getD, set, take, drop, replicate}
 use lib.Seq.{sets}
@@ -20,6 +20,10 @@ use Rattle.magnetron.specs.declared.buffer.BufferIndex.the-variants.{Ext
 abbrev pub indexOf : BufferIndex → ℕ
 indexOf (External k) = k
 indexOf (Internal k) = k
+
+-- the buffer of a number: twice its index, plus one if external
+abbrev pub bufferOf : ℕ → BufferIndex
+bufferOf number = cond (eqb (number % 2) 0) (Internal (number / 2)) (External (number / 2))
 
 -- of what the internal pool has and what the external one has, that of the buffer's own pool
 abbrev pub pick : {A : Type 0} → BufferIndex → A → A → A

@@ -1,7 +1,7 @@
 // Buffers by index, the activity of what writes one, and the stale marks.
 use crate::stage::StageActivity;
 ghost use mathlib.Core.Path.{_≡_};
-ghost use Rattle.magnetron.specs.Buffers.{sameBuffer, activityOf, staleAt, cleared};
+ghost use Rattle.magnetron.specs.Buffers.{bufferOf, sameBuffer, activityOf, staleAt, cleared};
 
 pub enum BufferIndex {
     External(usize),
@@ -23,6 +23,16 @@ impl BufferIndex {
             BufferIndex::Internal(_) => StageActivity::Internal,
         }
     }
+}
+
+// The buffer of a number, for a host, a file or a stream, which have no enums: twice its index, plus one if external.
+pub fn buffer_of(number: usize) -> BufferIndex
+    ensures { λ r. ⌜ r ≡ bufferOf number ⌝ }
+{
+    if number % 2 == 0 {
+        return BufferIndex::Internal(number / 2);
+    }
+    BufferIndex::External(number / 2)
 }
 
 pub fn same_buffer(a: BufferIndex, b: BufferIndex) -> bool

@@ -10,7 +10,7 @@ use crate::pools::Zeros;
 use crate::pools::read_marks;
 use crate::pools::read_sizes;
 use crate::pools::write_marks;
-use flat::stage::buffer_of;
+use magnetron::buffer::buffer_of;
 use magnetron::check::Verdict;
 use magnetron::check::done;
 use magnetron::pool::Pools;

@@ -1,7 +1,7 @@
--- `flat::stage::buffer_of` meets its contract: both ways of the test. Assumes nothing.
+-- `magnetron::buffer::buffer_of` meets its contract: both ways of the test. Assumes nothing.
 use borrow.Author.Tests.{eq-eqb, ne-eqb}
-use Rattle.flat.proofs.stage.buffer_of.Statement.{statement}
-use Rattle.flat.proofs.stage.buffer_of.Tie as tie
+use Rattle.magnetron.proofs.buffer.buffer_of.Statement.{statement}
+use Rattle.magnetron.proofs.buffer.buffer_of.Tie as tie
 
 returns : tie.Need-returns
 returns c = simp (eq-eqb _ _ ((c .if1 .taken)))
