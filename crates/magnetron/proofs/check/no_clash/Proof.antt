@@ -8,7 +8,7 @@ use Rattle.magnetron.proofs.check.no_clash.Statement.{statement}
 use Rattle.magnetron.proofs.check.no_clash.Tie as tie
 
 returns : tie.Need-returns
-returns c = simp (eq-eqb _ _ (c .if1 .taken))
+returns c = simp (eq-eqb _ 0 (c .if1 .taken))
 
 is-input-requires : tie.Need-is-input-requires
 is-input-requires c κs = search needs

@@ -10,7 +10,7 @@ recip-requires-2 : tie.Need-recip-requires-2
 recip-requires-2 c κs = search needs
 
 returns : tie.Need-returns
-returns c = cc
+returns c = rw (c .before .recip .ensures) at (c .recip2 .ensures)
 
 pub low-pass-alpha-spec : {M : Type 1} → statement M
 low-pass-alpha-spec = tie.close (tie.spec recip-requires recip-requires-2 returns)

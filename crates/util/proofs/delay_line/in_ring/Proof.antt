@@ -6,7 +6,7 @@ use Rattle.util.proofs.delay_line.in_ring.Tie as tie
 
 returns : tie.Need-returns
 unfolding inRing
-returns c = simp (lt-leb _ _ (c .if1 .taken))
+returns c = simp (lt-leb _ 32768 (c .if1 .taken))
 
 returns-2 : tie.Need-returns-2
 unfolding inRing

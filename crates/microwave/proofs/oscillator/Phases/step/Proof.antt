@@ -18,7 +18,9 @@ rem-euclid-one-requires c κs = search needs
 
 returns : tie.Need-returns
 unfolding oscillatorNext oscillatorOut
-returns c = cc
+returns c =
+    let wave = c .before .before .before .before .before in
+    simp (wave .before .place .ensures, wave .wave .ensures, c .before .bent .ensures, c .rem-euclid-one .ensures)
 
 pub step-spec : {M : Type 1} → statement M
 step-spec =
