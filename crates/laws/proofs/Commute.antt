@@ -2,31 +2,33 @@
 -- computes is a function of what it has to itself and of what it hears, whatever that function is.
 --     step-swap                          THE COMMUTING LAW, of two steps
 --     fault-same, turn-swap              the same of the checks
+--     untied                             what not being tied tells of two stages of the patch
 --     tied-even                          being tied has no direction
+--     tied-there                         a number that names no stage is tied to none
 -- Assumes nothing.
 use mathlib.Core.Path.{_≡_, refl, sym, ap, ap₂, _∙_}
 use mathlib.Core.Logic.{_≢_, inl, inr, ⊎-elim}
-use mathlib.Core.Bool.{Bool, true, false, not, _&&_, _||_, or-comm}
+use mathlib.Core.Bool.{Bool, true, false, not, _&&_, _||_, and-comm, or-comm}
 use mathlib.Core.List.{List, [], _∷_, map}
 use Prim.Native.Nat.{ℕ, _<_, _≤_}
 use native.Mathlib.Nat.{eq-or-lt-of-le}
 use lib.Dec.{ltb}
 use lib.Ieee.{Float}
 use lib.Seq.{getD-set-other, set-comm}
-use borrow.Author.Tests.{ltb-true, ltb-false}
+use borrow.Author.Tests.{ltb-true, ltb-false, lt-ltb}
 use Rattle.order.specs.Order.{Among, runs}
 use Rattle.magnetron.specs.Buffers.{capacityAt, Banks, lineAt, heard, write, pairs, staleAt, cleared, hits, meets, clash}
 use Rattle.magnetron.specs.Inputs.{Apart}
 use Rattle.magnetron.specs.declared.buffer.Marks.{Marks}
 use Rattle.magnetron.specs.declared.buffer.BufferIndex.{BufferIndex}
-use Rattle.magnetron.proofs.Tests.{or-false-left, or-false-right}
+use Rattle.magnetron.proofs.Tests.{and-left, and-right, or-false-left, or-false-right}
 use Rattle.magnetron.proofs.Parts.{read-apart, store-apart}
 use Rattle.magnetron.proofs.Stores.{mark-other, mark-swap, meets-none}
 use Rattle.magnetron.proofs.Writes.{unseen, folds-swap, map-same, pairs-to, write-other, write-swap}
 use Rattle.engine.specs.Stage.{own}
 use Rattle.engine.specs.Run.{Plan, World, noState, insAt, outsAt, shapeIn, sumTo, lenIn, ringAt, ownOf, Played, playedAt, putPlayed, step, faultOf, fault, turned}
 use Rattle.engine.proofs.EndToEnd.{sum-step}
-use Rattle.laws.specs.Tied.{disturbs, tied}
+use Rattle.laws.specs.Tied.{isThere, disturbs, tied}
 
 -- rings of two stages lie apart, since a ring ends where the next one begins, or before
 rings-apart : (f : ℕ → ℕ) (i j : ℕ) → i ≢ j → Apart (sumTo i f) (f i) (sumTo j f) (f j)
@@ -42,24 +44,52 @@ clash-same ins [] m n h = refl
 clash-same ins (o ∷ outs) m n h = ap₂ (λ (x y : Bool). (hits o ins && not x) || y) (h o (inl refl)) (clash-same ins outs m n (λ b k. h b (inr k)))
 
 module _ (P : Plan) where
+  is-there : (k : ℕ) → k < P .patch .count → isThere P k ≡ true
+  is-there k h = lt-ltb k (P .patch .count) h
+
+  there-is : (k : ℕ) → isThere P k ≡ true → k < P .patch .count
+  there-is k e = ltb-true k (P .patch .count) e
+
+  -- what is known of two stages of the patch that are not tied: neither disturbs the other
+  pub record Untied (j k : ℕ) : Type 0 where
+    pub one : disturbs P j k ≡ false
+    pub other : disturbs P k j ≡ false
+
+  pub untied : (j k : ℕ) → j < P .patch .count → k < P .patch .count → tied P j k ≡ false → Untied j k
+  unfolding tied
+  untied j k j-there k-there e = record { one = or-false-left (disturbs P j k) _ neither; other = or-false-right (disturbs P j k) _ neither }
+    where
+      neither : (disturbs P j k || disturbs P k j) ≡ false
+      neither = rw (is-there j j-there, is-there k k-there) at e
+
+  turned-round : (j k : ℕ) → Untied j k → Untied k j
+  turned-round j k u = record { one = u .other; other = u .one }
+
   pub tied-even : (j k : ℕ) → tied P j k ≡ tied P k j
   unfolding tied
-  tied-even j k = or-comm (disturbs P j k) (disturbs P k j)
+  tied-even j k = ap₂ _&&_ (and-comm (isThere P j) (isThere P k)) (or-comm (disturbs P j k) (disturbs P k j))
+
+  -- A number that names no stage is tied to none.
+  pub tied-there : (j k : ℕ) → tied P j k ≡ true → (j < P .patch .count) × (k < P .patch .count)
+  unfolding tied
+  tied-there j k e =
+      let both : (isThere P j && isThere P k) ≡ true = and-left (isThere P j && isThere P k) _ e in
+      (there-is j (and-left (isThere P j) (isThere P k) both), there-is k (and-right (isThere P j) (isThere P k) both))
 
   -- ---- what two stages that are not tied have in common: no buffer that one of them writes
 
-  module _ (j k : ℕ) (e : tied P j k ≡ false) where
+  module _ (j k : ℕ) (e : Untied j k) where
     ins-differ : (b c : BufferIndex) → Among b (insAt P j) → Among c (outsAt P k) → b ≢ c
-    unfolding tied disturbs
-    ins-differ b c m n q = meets-none (outsAt P k) (insAt P j) (or-false-left (meets (outsAt P k) (insAt P j)) _ (or-false-right (disturbs P j k) _ e)) c b n m (sym q)
+    unfolding disturbs
+    ins-differ b c m n q = meets-none (outsAt P k) (insAt P j) (or-false-left (meets (outsAt P k) (insAt P j)) _ (e .other)) c b n m (sym q)
 
     outs-differ : (b c : BufferIndex) → Among b (outsAt P j) → Among c (outsAt P k) → b ≢ c
-    unfolding tied disturbs
-    outs-differ = meets-none (outsAt P j) (outsAt P k) (or-false-right (meets (outsAt P j) (insAt P k)) _ (or-false-left (disturbs P j k) _ e))
+    unfolding disturbs
+    outs-differ = meets-none (outsAt P j) (outsAt P k) (or-false-right (meets (outsAt P j) (insAt P k)) _ (e .one))
 
   -- ---- the steps, where the window fits each buffer
 
-  module _ (fits : (b : BufferIndex) → shapeIn P .window ≤ capacityAt (shapeIn P) b) (j k : ℕ) (d : j ≢ k) (e : tied P j k ≡ false) where
+  module _ (fits : (b : BufferIndex) → shapeIn P .window ≤ capacityAt (shapeIn P) b) (j k : ℕ) (d : j ≢ k) (e : Untied j k) where
     heard-same : (vs : List (List Float)) (p : Banks)
         → map (λ (b : BufferIndex). heard (P .window .«buffer_len») (lineAt (shapeIn P) b (runs (write (shapeIn P)) (pairs (outsAt P k) vs) p))) (insAt P j)
         ≡ map (λ (b : BufferIndex). heard (P .window .«buffer_len») (lineAt (shapeIn P) b p)) (insAt P j)
@@ -95,17 +125,17 @@ module _ (P : Plan) where
     }
 
   -- THE COMMUTING LAW
-  pub step-swap : (fits : (b : BufferIndex) → shapeIn P .window ≤ capacityAt (shapeIn P) b) (j k : ℕ) → j ≢ k → tied P j k ≡ false → (w : World)
+  pub step-swap : (fits : (b : BufferIndex) → shapeIn P .window ≤ capacityAt (shapeIn P) b) (j k : ℕ) → j ≢ k → Untied j k → (w : World)
       → step P j (step P k w) ≡ step P k (step P j w)
   unfolding step
   step-swap fits j k d e w =
       ap (λ (a : Played). putPlayed P j a (step P k w)) (played-same fits j k d e w)
       ∙ put-swap fits j k d e (playedAt P j w) (playedAt P k w) w
-      ∙ ap (λ (a : Played). putPlayed P k a (step P j w)) (sym (played-same fits k j (λ q. d (sym q)) (tied-even k j ∙ e) w))
+      ∙ ap (λ (a : Played). putPlayed P k a (step P j w)) (sym (played-same fits k j (λ q. d (sym q)) (turned-round j k e) w))
 
   -- ---- the checks
 
-  module _ (j k : ℕ) (e : tied P j k ≡ false) (m : Marks) where
+  module _ (j k : ℕ) (e : Untied j k) (m : Marks) where
     stale-same : (b : BufferIndex) → Among b (outsAt P j) → staleAt b (turned P k m) ≡ staleAt b m
     unfolding turned
     stale-same b h = unseen cleared (staleAt b) (outsAt P k) (λ c n q. mark-other b c q (outs-differ j k e b c h n)) m

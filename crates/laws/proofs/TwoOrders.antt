@@ -9,12 +9,12 @@ use mathlib.Core.Logic.{_≢_, _⊎_, inl, inr, ⊎-elim}
 use mathlib.Core.Bool.{Bool, true, false, _&&_, _||_, true≢false, false≢true, and-assoc, and-comm}
 use mathlib.Core.List.{List, [], _∷_}
 use mathlib.Core.Option.{Option, none, some}
-use Prim.Native.Nat.{ℕ, suc, _+_}
+use Prim.Native.Nat.{ℕ, suc, _+_, _<_}
 use native.Mathlib.Omega.{arith}
 use lib.Dec.{eqb, ltb}
 use lib.ListN.{length}
 use lib.Ieee.{Float}
-use borrow.Author.Tests.{eqb-true}
+use borrow.Author.Tests.{eqb-true, ltb-true}
 use Rattle.order.specs.Order.{Among, Once, SameOrder, runs}
 use Rattle.order.specs.Checks.{passed, verdict}
 use Rattle.order.proofs.Trace.{trace}
@@ -22,19 +22,22 @@ use Rattle.order.proofs.Checks.{shuffle, passed-first, same-verdict}
 use Rattle.magnetron.specs.Activity.{greaterOf}
 use Rattle.magnetron.specs.Buffers.{marksOf, activityOf}
 use Rattle.magnetron.specs.declared.buffer.BufferIndex.{BufferIndex}
+use Rattle.magnetron.specs.declared.buffer.Marks.{Marks}
 use Rattle.magnetron.specs.declared.check.Verdict.{Verdict}
 use Rattle.magnetron.specs.declared.stage.StageActivity.{StageActivity}
 use Rattle.magnetron.specs.declared.stage.StageActivity.the-variants.{Exhausted}
-use Rattle.magnetron.proofs.Tests.{or-cases}
+use Rattle.magnetron.proofs.Tests.{and-left, and-right, or-cases}
 use Rattle.magnetron.proofs.Writes.{folds-swap}
 use Rattle.magnetron.proofs.Greatest.{greater-comm, greater-assoc}
 use Rattle.magnetron.proofs.Told.{fits}
 use Rattle.engine.specs.Run.{Plan, World, outsAt, step, louder, allBelow, holds, repeats, orderly, entry, named, fault, turned, judged, ended, rendered, Left, leftBy}
-use Rattle.engine.specs.Code.{returned}
+use Rattle.engine.specs.Code.{returned, Entered}
+use Rattle.engine.proofs.Entries.{entry-told}
+use Rattle.engine.proofs.Faults.{passed-named}
 use Rattle.engine.proofs.Judged.{judged-passed, passed-all}
 use Rattle.engine.proofs.Ends.{left-done}
 use Rattle.laws.specs.Tied.{tied}
-use Rattle.laws.proofs.Commute.{tied-even, step-swap, fault-same, turn-swap}
+use Rattle.laws.proofs.Commute.{untied, tied-even, step-swap, fault-same, turn-swap}
 
 -- ---- check 3 along an order in which each stands once
 
@@ -60,6 +63,15 @@ runs-below : (c : ℕ) (ks : List ℕ) (b : Bool) → runs (λ k b. b && ltb k c
 runs-below c [] b = sym (and-comm b true)
 runs-below c (k ∷ ks) b = runs-below c ks (b && ltb k c) ∙ and-assoc b (ltb k c) (allBelow c ks)
 
+-- every member of an order is a stage of the patch
+abbrev Stages : Plan → List ℕ → Type 0
+Stages P ks = (k : ℕ) → Among k ks → k < P .patch .count
+
+stages-there : (P : Plan) (ks : List ℕ) → allBelow (P .patch .count) ks ≡ true → Stages P ks
+stages-there P [] e k m = absurd m
+stages-there P (x ∷ xs) e k (inl q) = rw q (ltb-true x _ (and-left (ltb x (P .patch .count)) _ e))
+stages-there P (x ∷ xs) e k (inr m) = stages-there P xs (and-right (ltb x (P .patch .count)) _ e) k m
+
 -- two values go into a result in either sequence, where the operation is associative and commutative
 swap-in : {S : Type 0} (op : S → S → S) → ((a b c : S) → op (op a b) c ≡ op a (op b c)) → ((a b : S) → op a b ≡ op b a) → (s a b : S) → op (op s a) b ≡ op (op s b) a
 swap-in op assoc comm s a b = assoc s a b ∙ ap (op s) (comm a b) ∙ sym (assoc s b a)
@@ -73,11 +85,11 @@ module _ (P : Plan) (zeros : List Float) (ks : List ℕ) (w : World) where
   abbrev Refused : Type 0
   Refused = leaves .ran .answer .number ≢ 0
 
-  went : passed (judged P zeros ks w) ≡ true → leaves ≡ leftBy P w (ended P ks w none)
+  pub went : passed (judged P zeros ks w) ≡ true → leaves ≡ leftBy P w (ended P ks w none)
   unfolding ended
   went e = sym (left-done P zeros ks w e)
 
-  stopped : passed (judged P zeros ks w) ≡ false → Refused
+  pub stopped : passed (judged P zeros ks w) ≡ false → Refused
   unfolding rendered ended leftBy
   stopped e z = true≢false (sym (judged-passed P zeros ks w (go (judged P zeros ks w) e z)) ∙ e)
     where
@@ -101,13 +113,25 @@ module _ (P : Plan) (xs ys : List ℕ) (h : SameOrder (tied P) xs ys) where
   unfolding entry orderly
   same-entry zeros w = rw (same-length, same-stages, once-repeats xs (h .once-left), once-repeats ys (h .once-right))
 
+  -- the checks along the order, where check 3 has found every stage there
+  same-along : Stages P xs → (m : Marks) → passed (verdict (fault P) (turned P) xs m) ≡ passed (verdict (fault P) (turned P) ys m)
+  same-along there m =
+      same-verdict (fault P) (turned P) (tied P) (tied-even P) (λ k. k < P .patch .count)
+      (λ a b a-there b-there d e m. fault-same P a b (untied P a b a-there b-there e) m) (λ a b a-there b-there d e m. turn-swap P a b (untied P a b a-there b-there e) m) xs ys h there m
+
   pub same-judged : (zeros : List Float) (w : World) → passed (judged P zeros xs w) ≡ passed (judged P zeros ys w)
   unfolding judged
   same-judged zeros w =
       passed-first (named 32 (entry P zeros xs w)) (verdict (fault P) (turned P) xs (marksOf (w .banks)))
-      ∙ ap₂ _&&_ (ap (λ (o : Option ℕ). passed (named 32 o)) (same-entry zeros w))
-      (same-verdict (fault P) (turned P) (tied P) (tied-even P) (λ a b d e m. fault-same P a b e m) (λ a b d e m. turn-swap P a b e m) xs ys h (marksOf (w .banks)))
+      ∙ go (passed (entry P zeros xs w)) refl
+      ∙ ap (λ (o : Option ℕ). passed (named 32 o) && passed (verdict (fault P) (turned P) ys (marksOf (w .banks)))) (same-entry zeros w)
       ∙ sym (passed-first (named 32 (entry P zeros ys w)) (verdict (fault P) (turned P) ys (marksOf (w .banks))))
+    where
+      go : (b : Bool) → passed (entry P zeros xs w) ≡ b
+          → (passed (named 32 (entry P zeros xs w)) && passed (verdict (fault P) (turned P) xs (marksOf (w .banks))))
+          ≡ (passed (named 32 (entry P zeros xs w)) && passed (verdict (fault P) (turned P) ys (marksOf (w .banks))))
+      go true e = ap (λ (b : Bool). passed (named 32 (entry P zeros xs w)) && b) (same-along (stages-there P xs (entry-told P zeros xs w e .below)) (marksOf (w .banks)))
+      go false e = rw (passed-named 32 (entry P zeros xs w), e)
 
   same-activity : runs (louder P) xs Exhausted ≡ runs (louder P) ys Exhausted
   unfolding louder
@@ -121,8 +145,10 @@ module _ (P : Plan) (xs ys : List ℕ) (h : SameOrder (tied P) xs ys) where
   module _ (zeros : List Float) (w : World) (e : passed (judged P zeros xs w) ≡ true) where
     same-world : runs (step P) xs w ≡ runs (step P) ys w
     same-world =
-        trace (step P) (λ (v : World). Unit {0}) (λ a v u. tt) (tied P) (λ (a : ℕ). Unit {0})
-        (λ a b oa ob d f v u. step-swap P (fits (P .pools) _ _ _ (passed-all P zeros xs w e .entered .pools)) a b d f v) xs ys h (λ a m. tt) w tt
+        let entered : Entered P xs w = passed-all P zeros xs w e .entered in
+        trace (step P) (λ (v : World). Unit {0}) (λ a v u. tt) (tied P) (λ k. k < P .patch .count)
+        (λ a b a-there b-there d f v u. step-swap P (fits (P .pools) _ _ _ (entered .pools)) a b d (untied P a b a-there b-there f) v) xs ys h
+        (stages-there P xs (entered .below)) w tt
 
     pub same-ended : ended P xs w none ≡ ended P ys w none
     unfolding ended

@@ -6,7 +6,7 @@ use mathlib.Core.Logic.{_≢_}
 use mathlib.Core.Bool.{Bool, true, false, _&&_, and-assoc, and-comm}
 use mathlib.Core.List.{List, [], _∷_}
 use mathlib.Core.Option.{Option, none, some}
-use Rattle.order.specs.Order.{SameOrder, runs}
+use Rattle.order.specs.Order.{Among, SameOrder, runs}
 use Rattle.order.specs.Checks.{first, passed, verdict}
 use Rattle.order.proofs.Trace.{trace}
 
@@ -44,27 +44,28 @@ module _ {A M R : Type 0} (fault : A → M → Option R) (turn : A → M → M) 
       ∙ ap (λ (b : Bool). l .ok && b) (sym (passed-first (fault x (l .knows)) (verdict fault turn xs (turn x (l .knows)))))
 
   -- if independent members do not see each other's turns, both orders pass or neither does
-  module _ (tied : A → A → Bool) (even : (a b : A) → tied a b ≡ tied b a)
-      (blind : (a b : A) → a ≢ b → tied a b ≡ false → (m : M) → fault a (turn b m) ≡ fault a m)
-      (swap : (a b : A) → a ≢ b → tied a b ≡ false → (m : M) → turn a (turn b m) ≡ turn b (turn a m)) where
-    look-swap : (a b : A) → a ≢ b → tied a b ≡ false → (l : Look M) → look a (look b l) ≡ look b (look a l)
+  module _ (tied : A → A → Bool) (even : (a b : A) → tied a b ≡ tied b a) (Ok : A → Type 0)
+      (blind : (a b : A) → Ok a → Ok b → a ≢ b → tied a b ≡ false → (m : M) → fault a (turn b m) ≡ fault a m)
+      (swap : (a b : A) → Ok a → Ok b → a ≢ b → tied a b ≡ false → (m : M) → turn a (turn b m) ≡ turn b (turn a m)) where
+    look-swap : (a b : A) → Ok a → Ok b → a ≢ b → tied a b ≡ false → (l : Look M) → look a (look b l) ≡ look b (look a l)
     unfolding look
-    look-swap a b d e l = λ i. record { ok = oks i; knows = swap a b d e m i }
+    look-swap a b oa ob d e l = λ i. record { ok = oks i; knows = swap a b oa ob d e m i }
       where
         m : M
         m = l .knows
 
         left : ((l .ok && passed (fault b m)) && passed (fault a (turn b m))) ≡ ((l .ok && passed (fault b m)) && passed (fault a m))
-        left = ap (λ (o : Option R). (l .ok && passed (fault b m)) && passed o) (blind a b d e m)
+        left = ap (λ (o : Option R). (l .ok && passed (fault b m)) && passed o) (blind a b oa ob d e m)
 
         right : ((l .ok && passed (fault a m)) && passed (fault b m)) ≡ ((l .ok && passed (fault a m)) && passed (fault b (turn a m)))
-        right = ap (λ (o : Option R). (l .ok && passed (fault a m)) && passed o) (sym (blind b a (λ p. d (sym p)) (even b a ∙ e) m))
+        right = ap (λ (o : Option R). (l .ok && passed (fault a m)) && passed o) (sym (blind b a ob oa (λ p. d (sym p)) (even b a ∙ e) m))
 
         oks : ((l .ok && passed (fault b m)) && passed (fault a (turn b m))) ≡ ((l .ok && passed (fault a m)) && passed (fault b (turn a m)))
         oks = left ∙ and-swap (l .ok) (passed (fault b m)) (passed (fault a m)) ∙ right
 
-    pub same-verdict : (xs ys : List A) → SameOrder tied xs ys → (m : M) → passed (verdict fault turn xs m) ≡ passed (verdict fault turn ys m)
-    same-verdict xs ys h m =
+    pub same-verdict : (xs ys : List A) → SameOrder tied xs ys → ((a : A) → Among a xs → Ok a) → (m : M)
+        → passed (verdict fault turn xs m) ≡ passed (verdict fault turn ys m)
+    same-verdict xs ys h ok m =
         sym (look-verdict xs start) ∙ ap (λ (l : Look M). l .ok) ends ∙ look-verdict ys start
       where
         start : Look M
@@ -72,5 +73,4 @@ module _ {A M R : Type 0} (fault : A → M → Option R) (turn : A → M → M) 
 
         ends : runs look xs start ≡ runs look ys start
         ends =
-            trace look (λ (l : Look M). Unit {0}) (λ a l u. tt) tied (λ (a : A). Unit {0}) (λ a b oa ob d e l u. look-swap a b d e l) xs ys h
-            (λ a k. tt) start tt
+            trace look (λ (l : Look M). Unit {0}) (λ a l u. tt) tied Ok (λ a b oa ob d e l u. look-swap a b oa ob d e l) xs ys h ok start tt
