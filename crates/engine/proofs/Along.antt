@@ -43,7 +43,7 @@ use Rattle.engine.proofs.Positions.{position-stays}
 -- ---- what a write leaves as it was
 
 module _ (h : Shape) (b : Banks) where
-  write-marks : (c : BufferIndex) (vs : List Float) → marksOf (write h (record { to = c; values = vs }) b) ≡ cleared c (marksOf b)
+  pub write-marks : (c : BufferIndex) (vs : List Float) → marksOf (write h (record { to = c; values = vs }) b) ≡ cleared c (marksOf b)
   unfolding write withLineAt withLine laid cleared
   write-marks (External k) vs = refl
   write-marks (Internal k) vs = refl
@@ -59,7 +59,7 @@ module _ (h : Shape) (b : Banks) where
   write-external (Internal k) vs = refl
 
 -- an element after a store is the new one, at its place, or the old one
-set-at-or : {A : Type 0} (C : ℕ → A → Type 0) (l : List A) (k i : ℕ) (y d : A) → ((i ≡ k) → C i y) → C i (getD l i d) → C i (getD (set l k y) i d)
+pub set-at-or : {A : Type 0} (C : ℕ → A → Type 0) (l : List A) (k i : ℕ) (y d : A) → ((i ≡ k) → C i y) → C i (getD l i d) → C i (getD (set l k y) i d)
 set-at-or C [] k i y d a b = b
 set-at-or C (x ∷ l) zero zero y d a b = a refl
 set-at-or C (x ∷ l) zero (suc i) y d a b = b

@@ -1,6 +1,6 @@
 -- The laws. Those that a stage's proof cites: `Writing` (the loop law, without and with a state), `Sources` (what a loop reads of the pool that
 -- it writes), `Told` (what passed checks tell), `Bridge` (from loops to definitions), `Stores` and `Writes` (writes to different buffers).
--- The theorems: `Nested`, `Determined`, and in `Greatest` the laws of activity.
+-- The theorems: `Stays`, `Determined`, and in `Greatest` the laws of activity.
 pub mod Tests
 pub mod Verdicts
 pub mod Greatest
@@ -17,5 +17,5 @@ pub mod Told
 pub mod Faults
 pub mod Reading
 pub mod Putting
-pub mod Nested
+pub mod Stays
 pub mod Determined

@@ -1,7 +1,8 @@
--- The delay line's offset, n times a fraction f held in 0..1 and rounded once, for any n up to 2 ^ 53 and any f. A ring of `length` slots reads at n = length - 1.
+-- The delay line's offset, n times a fraction f held in 0..1 and rounded once, for any n up to 2 ^ 53 and any f. A ring reads at n = its length - 1.
 --     offset-within    it is from 0 to n, so that its cast to a whole number is in range (`Range.antt`)
 --     offset-is        `round_up` rounds it up
 --     offset-le        what that gives is at most n
+--     offset-zero      it is 0.0 where the held fraction is
 -- Assumes nothing.
 use mathlib.Core.Path.{_≡_, refl, sym, _∙_, ap, subst}
 use mathlib.Core.Bool.{Bool, true, false, cond}
@@ -94,3 +95,14 @@ offset-is n f N = up-is (widen N (offset-within n f N))
 
 pub offset-le : (n : ℕ) (f : Float) → n ≤ 2 ^ 53 → upOf (offset n f) ≤ n
 offset-le n f N = rw (offset-is n f N) (ceil-le (offset-within n f N))
+
+times-zero : (n : ℕ) (w : Float) → HasValue w false n 1 → mul binary64 w zero64 ≡ zero64
+unfolding mul ofBits
+times-zero n nan v = absurd v
+times-zero n (inf s) v = absurd v
+times-zero n (fin true a d) v = falsehood (sym (v .0))
+times-zero n (fin false a d) v = simp (mul-zero, mul-one, round-zero false (down d) (down-pos d))
+
+pub offset-zero : (n : ℕ) (f : Float) → n ≤ 2 ^ 53 → heldOf f zero64 one64 ≡ zero64 → offset n f ≡ zero64
+unfolding ofInt
+offset-zero n f N e = rw e (times-zero n (round binary64 false n 1) (round-whole binary64 false n N))
