@@ -3,7 +3,7 @@ use mathlib.Core.Path.{_≡_}
 use Rattle.microwave.specs.Arithmetic.{Arithmetic, Field}
 
 module _ {A : Arithmetic} (F : Field A) where
-  open Arithmetic A using (Number, zero, one, _⊕_, _⊖_, _⊗_, _⊘_, negated)
+  open Arithmetic A using (Number, 𝟎, 𝟏, _⊕_, _⊖_, _⊗_, _⊘_, negated)
   open Field F using (⊕-assoc, ⊕-comm, ⊕-zero, ⊕-negated, ⊗-assoc, ⊗-comm, ⊗-one, ⊕-⊗, ⊘-⊗, ⊖-is)
 
   -- what is added on both sides is taken off
@@ -13,20 +13,20 @@ module _ {A : Arithmetic} (F : Field A) where
   pub negated-twice : (x : Number) → negated (negated x) ≡ x
   negated-twice x = ⊕-cancel _ _ (negated x) (cc (⊕-comm (negated (negated x)) (negated x), ⊕-negated (negated x), ⊕-negated x))
 
-  zero-⊗ : (x : Number) → zero ⊗ x ≡ zero
+  zero-⊗ : (x : Number) → 𝟎 ⊗ x ≡ 𝟎
   zero-⊗ x =
-      ⊕-cancel _ _ (zero ⊗ x) (cc (⊕-⊗ zero zero x, ⊕-zero zero, ⊕-comm zero (zero ⊗ x), ⊕-zero (zero ⊗ x)))
+      ⊕-cancel _ _ (𝟎 ⊗ x) (cc (⊕-⊗ 𝟎 𝟎 x, ⊕-zero 𝟎, ⊕-comm 𝟎 (𝟎 ⊗ x), ⊕-zero (𝟎 ⊗ x)))
 
   pub negated-⊗ : (x y : Number) → negated x ⊗ y ≡ negated (x ⊗ y)
   negated-⊗ x y =
       ⊕-cancel _ _ (x ⊗ y)
       (cc (⊕-⊗ (negated x) x y, ⊕-comm (negated x) x, ⊕-negated x, zero-⊗ y, ⊕-comm (negated (x ⊗ y)) (x ⊗ y), ⊕-negated (x ⊗ y)))
 
-  module _ (a : Number) (nonzero : a ≡ zero → ⊥) where
+  module _ (a : Number) (nonzero : a ≡ 𝟎 → ⊥) where
     -- what both sides are multiplied by is divided off, where it is not zero
-    ⊗-cancel : (x y : Number) → x ⊗ a ≡ y ⊗ a → x ≡ y
+    pub ⊗-cancel : (x y : Number) → x ⊗ a ≡ y ⊗ a → x ≡ y
     ⊗-cancel x y e =
-        cc (⊗-one x, ⊗-one y, ⊗-assoc x a (one ⊘ a), ⊗-assoc y a (one ⊘ a), ⊗-comm a (one ⊘ a), ⊘-⊗ one a nonzero)
+        cc (⊗-one x, ⊗-one y, ⊗-assoc x a (𝟏 ⊘ a), ⊗-assoc y a (𝟏 ⊘ a), ⊗-comm a (𝟏 ⊘ a), ⊘-⊗ 𝟏 a nonzero)
 
     pub ⊕-⊘ : (x y : Number) → (x ⊕ y) ⊘ a ≡ x ⊘ a ⊕ y ⊘ a
     ⊕-⊘ x y = ⊗-cancel _ _ (simp (⊕-⊗, ⊘-⊗))
@@ -42,13 +42,16 @@ module _ {A : Arithmetic} (F : Field A) where
         ⊗-cancel _ _
         (cc (⊘-⊗ (b ⊗ x) a nonzero, ⊘-⊗ b a nonzero, ⊗-assoc (b ⊘ a) x a, ⊗-comm x a, ⊗-assoc (b ⊘ a) a x))
 
-  ⊗-nonzero : (a b : Number) → (a ≡ zero → ⊥) → (b ≡ zero → ⊥) → a ⊗ b ≡ zero → ⊥
+  pub times-over : (a : Number) → (a ≡ 𝟎 → ⊥) → (x : Number) → x ⊗ (𝟏 ⊘ a) ≡ x ⊘ a
+  times-over a nonzero x = cc (⊗-⊘ a nonzero 𝟏 x, ⊗-comm 𝟏 x, ⊗-one x, ⊗-comm x (𝟏 ⊘ a))
+
+  ⊗-nonzero : (a b : Number) → (a ≡ 𝟎 → ⊥) → (b ≡ 𝟎 → ⊥) → a ⊗ b ≡ 𝟎 → ⊥
   ⊗-nonzero a b a-nonzero b-nonzero e =
       b-nonzero
-      (cc (⊗-one b, ⊗-comm b one, ⊘-⊗ one a a-nonzero, ⊗-assoc (one ⊘ a) a b, ⊗-comm (one ⊘ a) zero, zero-⊗ (one ⊘ a)))
+      (cc (⊗-one b, ⊗-comm b 𝟏, ⊘-⊗ 𝟏 a a-nonzero, ⊗-assoc (𝟏 ⊘ a) a b, ⊗-comm (𝟏 ⊘ a) 𝟎, zero-⊗ (𝟏 ⊘ a)))
 
-  pub ⊘-⊘ : (x a b : Number) → (a ≡ zero → ⊥) → (b ≡ zero → ⊥) → x ⊘ a ⊘ b ≡ x ⊘ (a ⊗ b)
+  pub ⊘-⊘ : (x a b : Number) → (a ≡ 𝟎 → ⊥) → (b ≡ 𝟎 → ⊥) → x ⊘ a ⊘ b ≡ x ⊘ (a ⊗ b)
   ⊘-⊘ x a b a-nonzero b-nonzero =
-      let nonzero : a ⊗ b ≡ zero → ⊥ = ⊗-nonzero a b a-nonzero b-nonzero in
+      let nonzero : a ⊗ b ≡ 𝟎 → ⊥ = ⊗-nonzero a b a-nonzero b-nonzero in
       ⊗-cancel (a ⊗ b) nonzero _ _
       (cc (⊘-⊗ x (a ⊗ b) nonzero, ⊗-comm a b, ⊗-assoc (x ⊘ a ⊘ b) b a, ⊘-⊗ (x ⊘ a) b b-nonzero, ⊘-⊗ x a a-nonzero))

@@ -32,32 +32,36 @@ pub record Step (N : Type 0) : Type 0 where
   pub sample : N
 
 module _ (A : Arithmetic) where
-  open Arithmetic A using (Number, zero, one, two, _⊕_, _⊖_, _⊗_, _⊘_, negated)
+  open Arithmetic A using (Number, 𝟎, 𝟏, 𝟐, _⊕_, _⊖_, _⊗_, _⊘_, negated)
 
   -- "alpha = sin/2/quality"
   abbrev pub alphaOf : Number → Number → Number
-  alphaOf sin quality = sin ⊘ two ⊘ quality
+  alphaOf sin quality = sin ⊘ 𝟐 ⊘ quality
 
   -- a kind's b0, b1 and b2 over the a0, a1 and a2 that all kinds share
   abbrev pub withPoles : Number → Number → Number → Number → Number → Coefficients Number
   withPoles b0 b1 b2 cos alpha =
-      record { b0 = b0; b1 = b1; b2 = b2; a0 = one ⊕ alpha; a1 = negated two ⊗ cos; a2 = one ⊖ alpha }
+      record { b0 = b0; b1 = b1; b2 = b2; a0 = 𝟏 ⊕ alpha; a1 = negated 𝟐 ⊗ cos; a2 = 𝟏 ⊖ alpha }
 
   abbrev pub coefficientsOf : Kind → Number → Number → Number → Coefficients Number
   coefficientsOf LowPass2 cos alpha quality =
-      let b1 = one ⊖ cos in
-      let b0 = b1 ⊘ two in
+      let b1 = 𝟏 ⊖ cos in
+      let b0 = b1 ⊘ 𝟐 in
       withPoles b0 b1 b0 cos alpha
   coefficientsOf HighPass2 cos alpha quality =
-      let b1 = negated (one ⊕ cos) in
-      let b0 = negated b1 ⊘ two in
+      let b1 = negated (𝟏 ⊕ cos) in
+      let b0 = negated b1 ⊘ 𝟐 in
       withPoles b0 b1 b0 cos alpha
   -- "BandPass keeps its 0.0*x1: an infinite x1 makes NaN."
   coefficientsOf BandPass cos alpha quality =
       let b0 = quality ⊗ alpha in
-      withPoles b0 zero (negated b0) cos alpha
-  coefficientsOf Notch cos alpha quality = withPoles one (negated two ⊗ cos) one cos alpha
-  coefficientsOf AllPass cos alpha quality = withPoles (one ⊖ alpha) (negated two ⊗ cos) (one ⊕ alpha) cos alpha
+      withPoles b0 𝟎 (negated b0) cos alpha
+  coefficientsOf Notch cos alpha quality = withPoles 𝟏 (negated 𝟐 ⊗ cos) 𝟏 cos alpha
+  coefficientsOf AllPass cos alpha quality = withPoles (𝟏 ⊖ alpha) (negated 𝟐 ⊗ cos) (𝟏 ⊕ alpha) cos alpha
+
+  -- a kind's coefficients at f0 turns for each sample, with the sine and the cosine of turns
+  abbrev pub atTurns : (Number → Number) → (Number → Number) → Kind → Number → Number → Coefficients Number
+  atTurns sine cosine kind f0 quality = coefficientsOf kind (cosine f0) (alphaOf (sine f0) quality) quality
 
   -- "y0 = (b0*x0 + b1*x1 + b2*x2 - a1*y1 - a2*y2)/a0 from left to right"
   abbrev pub outOf : Coefficients Number → Memory Number → Number → Number
@@ -76,7 +80,7 @@ module _ (A : Arithmetic) where
 
   -- input and output n of a run, counted from the memory's older pair, which stand in front: sample n of the run has place n + 2
   abbrev pub inputAt : Memory Number → List Number → ℕ → Number
-  inputAt m xs n = getD (m .x2 ∷ m .x1 ∷ xs) n zero
+  inputAt m xs n = getD (m .x2 ∷ m .x1 ∷ xs) n 𝟎
 
   abbrev pub outputAt : Coefficients Number → Memory Number → List Number → ℕ → Number
-  outputAt k m xs n = getD (m .y2 ∷ m .y1 ∷ filtered k m xs) n zero
+  outputAt k m xs n = getD (m .y2 ∷ m .y1 ∷ filtered k m xs) n 𝟎

@@ -2,7 +2,7 @@
 -- read in f64; this file joins them to the code's records. Assumes nothing.
 use mathlib.Core.List.{List, [], _∷_}
 use lib.Ieee.{Float, binary64, ofBits}
-use Rattle.numbers.specs.Constants.{quarter64, half64}
+use Rattle.numbers.specs.Constants.{zero64, quarter64, half64}
 use Rattle.numbers.specs.Small.{maxOf, heldOf}
 use Rattle.numbers.specs.Turns.{sineOf, cosineOf}
 use Rattle.microwave.specs.Arithmetic.{Arithmetic, f64-arithmetic}
@@ -24,7 +24,7 @@ use Rattle.microwave.specs.declared.filter.BiquadStepped.{BiquadStepped}
 use Rattle.microwave.specs.declared.filter.Tuning.{Tuning}
 use Rattle.microwave.specs.declared.filter.FilterMachine.{FilterMachine}
 use Rattle.microwave.specs.declared.filter.FilterMachine.the-variants as M
-open Arithmetic f64-arithmetic using (zero, _⊗_)
+open Arithmetic f64-arithmetic using (_⊗_)
 
 -- "Each filter kind carries its own parameters", all of them required. A one-pole has no quality.
 abbrev pub biquadAsks : Parameter → Parameter → Asks
@@ -71,7 +71,7 @@ leastQuality = ofBits binary64 0x3ddb_7cdf_d9d7_bdbb
 unfoldable pub tunedTo : Float → Float → Float → Float → Tuning
 tunedTo frequency quality w highest =
     let q = maxOf quality leastQuality in
-    let f0 = heldOf (frequency ⊗ w) zero highest in
+    let f0 = heldOf (frequency ⊗ w) zero64 highest in
     record { cos = cosineOf f0; alpha = B.alphaOf f64-arithmetic (sineOf f0) q; quality = q }
 
 abbrev pub coefficientsAt : B.Kind → Tuning → Coefficients

@@ -1,25 +1,25 @@
 -- The two one-poles in the Rust's order of operations (filter.rs). Assumes nothing.
 use lib.Ieee.{Float}
-use Rattle.numbers.specs.Constants.{tau64}
+use Rattle.numbers.specs.Constants.{one64, tau64}
 use Rattle.numbers.specs.Small.{recipOf}
 use Rattle.microwave.specs.Arithmetic.{Arithmetic, f64-arithmetic}
 use Rattle.microwave.specs.declared.filter.OnePole.{OnePole}
 use Rattle.microwave.specs.declared.filter.OnePole.the-variants.{LowPass, HighPass}
 use Rattle.microwave.specs.declared.filter.OnePoleMemory.{OnePoleMemory}
 use Rattle.microwave.specs.declared.filter.OnePoleStepped.{OnePoleStepped}
-open Arithmetic f64-arithmetic using (one, _⊕_, _⊖_, _⊗_, _⊘_)
+open Arithmetic f64-arithmetic using (_⊕_, _⊖_, _⊗_, _⊘_)
 
 -- "LowPass: omega = (TAU*cutoff)*w."
 abbrev pub lowPassAlpha : Float → Float → Float
 lowPassAlpha cutoff w =
     let omega = (tau64 ⊗ cutoff) ⊗ w in
-    recipOf (one ⊕ recipOf omega)
+    recipOf (one64 ⊕ recipOf omega)
 
 -- "HighPass: (TAU*w)*cutoff. The two products round differently."
 abbrev pub highPassAlpha : Float → Float → Float
 highPassAlpha cutoff w =
     let omega = (tau64 ⊗ w) ⊗ cutoff in
-    one ⊘ (one ⊕ omega)
+    one64 ⊘ (one64 ⊕ omega)
 
 -- The next output from the last one; the high-pass keeps its last input too. "a run changes only its own kind's part"
 unfoldable pub onePoleStep : OnePole → OnePoleMemory → Float → OnePoleStepped

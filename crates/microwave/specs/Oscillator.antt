@@ -4,7 +4,7 @@ use Prim.Native.Nat.{ℕ}
 use mathlib.Core.Bool.{cond}
 use lib.IntN.{pos}
 use lib.Ieee.{Float, binary64, ofBits, neg, lt, ofInt}
-use Rattle.numbers.specs.Constants.{half64, quarter64, three-quarters64}
+use Rattle.numbers.specs.Constants.{one64, two64, half64, quarter64, three-quarters64}
 use Rattle.numbers.specs.Small.{absOf, fractOf, remEuclidOf}
 use Rattle.numbers.specs.Turns.{sineOf}
 use Rattle.microwave.specs.Arithmetic.{Arithmetic, f64-arithmetic}
@@ -17,7 +17,7 @@ use Rattle.microwave.specs.declared.oscillator.Driven.the-variants.{Plai
 use Rattle.microwave.specs.declared.oscillator.Phases.{Phases}
 use Rattle.microwave.specs.declared.oscillator.Oscillator.{Oscillator}
 use Rattle.microwave.specs.declared.oscillator.Oscillated.{Oscillated}
-open Arithmetic f64-arithmetic using (one, two, _⊕_, _⊖_, _⊗_, _⊘_)
+open Arithmetic f64-arithmetic using (_⊕_, _⊖_, _⊗_, _⊘_)
 
 -- ---- the start of a window
 
@@ -56,8 +56,8 @@ unfoldable pub waveOf : OscillatorType → Float → Float
 waveOf Sin phase = sineOf phase
 waveOf Sin3 phase = sineOf phase ⊗ sineOf phase ⊗ sineOf phase
 waveOf Triangle phase = (absOf (fractOf (three-quarters64 ⊕ phase) ⊖ half64) ⊖ quarter64) ⊗ four64
-waveOf Square phase = cond (lt phase half64) one (neg one)
-waveOf Sawtooth phase = (fractOf (half64 ⊕ phase) ⊖ half64) ⊗ two
+waveOf Square phase = cond (lt phase half64) one64 (neg one64)
+waveOf Sawtooth phase = (fractOf (half64 ⊕ phase) ⊖ half64) ⊗ two64
 
 -- "Signal first, then phase = rem_euclid(phase + dp).": the signal is read where the phase stood. `saved` stays.
 unfoldable pub oscillatorOut : Oscillator → Phases → Float → Float

@@ -4,7 +4,7 @@ use mathlib.Core.List.{List}
 use lib.IntN.{pos}
 use lib.ListN.{length}
 use lib.Ieee.{Float, binary64, ofBits, neg, ofInt}
-use Rattle.numbers.specs.Constants.{half64}
+use Rattle.numbers.specs.Constants.{zero64, one64, half64}
 use Rattle.numbers.specs.Small.{heldOf}
 use Rattle.util.specs.DelayLine.{delayAt}
 use Rattle.util.specs.Interaction.{Step, over, dampingOf, lowPassAt, lowPassGain}
@@ -17,15 +17,15 @@ use Rattle.microwave.specs.declared.waveguide.Reflectance.{Reflectance}
 use Rattle.microwave.specs.declared.waveguide.Reflectance.the-variants.{Positive, Negative}
 use Rattle.microwave.specs.declared.waveguide.StringMemory.{StringMemory}
 use Rattle.microwave.specs.declared.waveguide.Guide.{Guide}
-open Arithmetic f64-arithmetic using (zero, one, _⊖_, _⊗_, _⊘_)
+open Arithmetic f64-arithmetic using (_⊖_, _⊗_, _⊘_)
 
 -- "factors 1 and 1, or -1 and 0.5"
 abbrev pub feedbackFactor : Reflectance → Float
-feedbackFactor Positive = one
-feedbackFactor Negative = neg one
+feedbackFactor Positive = one64
+feedbackFactor Negative = neg one64
 
 abbrev pub lengthFactor : Reflectance → Float
-lengthFactor Positive = one
+lengthFactor Positive = one64
 lengthFactor Negative = half64
 
 -- "response is feedback*factor times the low-passed sample", with the low-pass at its state
@@ -36,10 +36,10 @@ responseAt damping gain state = record { first = lowPassAt damping state; second
 -- at any state. "ring length is one more"
 unfoldable pub guideOf : Reflectance → ℕ → Float → Float → Float → Float → Guide
 guideOf reflectance size frequency cutoff feedback w =
-    let damping = dampingOf cutoff (one ⊘ w) in
+    let damping = dampingOf cutoff (one64 ⊘ w) in
     let gain = feedback ⊗ feedbackFactor reflectance in
-    let skip = lengthFactor reflectance ⊘ (w ⊗ frequency) ⊖ lowPassGain .delay (responseAt damping gain zero) in
-    let fract = heldOf (skip ⊘ ofInt binary64 (pos size)) zero one in
+    let skip = lengthFactor reflectance ⊘ (w ⊗ frequency) ⊖ lowPassGain .delay (responseAt damping gain zero64) in
+    let fract = heldOf (skip ⊘ ofInt binary64 (pos size)) zero64 one64 in
     record { damping = damping; gain = gain; delay = delayAt (size + 1) fract }
 
 -- ---- one sample
