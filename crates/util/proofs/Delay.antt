@@ -16,20 +16,20 @@ use Rattle.numbers.specs.declared.ceil.Up.{Up}
 use Rattle.numbers.proofs.Offset.{offset-is, offset-le}
 use Rattle.util.specs.DelayLine.{offsetOf, delayOf, delayAt, inRing}
 
-module _ (length : ℕ) (f : Float) (small : length ≤ 32768) where
-  rounds-up : upOf (offsetOf length f) ≡ ceilOf (offsetOf length f)
-  rounds-up = offset-is (length - 1) f (omega arith)
+module _ (slots : ℕ) (f : Float) (small : slots ≤ 32768) where
+  rounds-up : upOf (offsetOf slots f) ≡ ceilOf (offsetOf slots f)
+  rounds-up = offset-is (slots - 1) f (omega arith)
 
   pub delay-made : {last held : Float} {up : Up}
-      → last ≡ ofInt binary64 (pos (length - 1)) → held ≡ heldOf f zero64 one64 → up ≡ roundedUpOf (mul binary64 last held)
-      → record { whole = up .whole; rest = up .gap } ≡ delayOf length f
+      → last ≡ ofInt binary64 (pos (slots - 1)) → held ≡ heldOf f zero64 one64 → up ≡ roundedUpOf (mul binary64 last held)
+      → record { whole = up .whole; rest = up .gap } ≡ delayOf slots f
   unfolding delayOf
   delay-made p q r = rw (r, p, q, rounds-up)
 
-  pub delay-there : 0 < length → delayAt length f ≡ delayOf length f
+  pub delay-there : 0 < slots → delayAt slots f ≡ delayOf slots f
   unfolding delayAt inRing
-  delay-there h = simp (le-leb length 32768 small, lt-ltb 0 length h)
+  delay-there h = simp (le-leb slots 32768 small, lt-ltb 0 slots h)
 
-  pub delay-below : 0 < length → delayOf length f .whole < length
+  pub delay-below : 0 < slots → delayOf slots f .whole < slots
   unfolding delayOf
-  delay-below h = rw (← rounds-up) (omega (arith, offset-le (length - 1) f (omega arith)))
+  delay-below h = rw (← rounds-up) (omega (arith, offset-le (slots - 1) f (omega arith)))

@@ -22,8 +22,6 @@ use Rattle.util.specs.DelayLine.{advanced}
 use Rattle.util.specs.Interaction.{Step}
 use Rattle.util.specs.Comb.{Comb}
 use Rattle.util.proofs.delay_line.delay_at.Reads as delay-at
-use Rattle.util.proofs.delay_line.slot_after.Reads as slot-after
-use Rattle.util.proofs.delay_line.heard_at.Reads as heard-at
 use Rattle.util.proofs.delay_line.Cursor.advance.Reads as advance
 use Rattle.util.proofs.delay_line.Cursor.write.Reads as write
 use Rattle.util.proofs.delay_line.Cursor.get_delayed.Reads as get-delayed
@@ -54,19 +52,9 @@ use Rattle.util.proofs.all_pass.AllPassDelay.process_sample_fract.Reads
 use Rattle.util.proofs.all_pass.AllPassDelay.mute.Reads as all-pass-mute
 use Rattle.util.proofs.lent.advance_lent as lent
 
-pub delay-line-determined : Answer delay-at.Post × Answer slot-after.Post × Answer heard-at.Post × Answer advance.Post
-    × Determined (λ r s. outcome r (now (s .1 .0))) write.Post × Answer get-delayed.Post × Answer get-delayed-fract.Post
-    × Determined (λ r s. outcome r (now (s .1 .0))) mute.Post
-delay-line-determined = (
-  by-definition,
-  as-follows (λ κs a r s p. p .0),
-  by-definition,
-  by-definition,
-  by-definition,
-  by-definition,
-  by-definition,
-  by-definition,
-)
+pub delay-line-determined : Answer delay-at.Post × Answer advance.Post × Determined (λ r s. outcome r (now (s .1 .0))) write.Post
+    × Answer get-delayed.Post × Answer get-delayed-fract.Post × Determined (λ r s. outcome r (now (s .1 .0))) mute.Post
+delay-line-determined = (by-definition, by-definition, by-definition, by-definition, by-definition, by-definition)
 
 pub soft-clip-determined : Answer soft-clip.Post × Answer soft-clip-delay.Post × Answer soft-clip-mute.Post
 soft-clip-determined = (
@@ -111,7 +99,7 @@ pub all-pass-determined : Answer all-pass-feedback.Post × Determined (λ r s. o
 all-pass-determined = (by-definition, by-definition, by-definition, by-definition)
 
 -- ---- proved by a walk, so that there is no `Reads`: `lent-is` says by `refl` that what is written here is its `ensures`
-abbrev Lent : RefT Cursor × ℕ → Verdict → RefT Cursor → Type 0
+abbrev pub Lent : RefT Cursor × ℕ → Verdict → RefT Cursor → Type 0
 Lent a r c = (r ≡ advanced (now (a .0)) (a .1) .verdict) × (now c ≡ advanced (now (a .0)) (a .1) .cursor)
 
 pub lent-is : {M : Type 1} (𝓤 : URA M) (H : Heap 𝓤) (A : Atoms 𝓤) (at-mem : Memory → SProp 𝓤) (run : Routine → Fun 𝓤) (κs : Lfts 1) (c c′ : RefT Cursor) (n : ℕ) (r : Verdict)

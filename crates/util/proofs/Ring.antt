@@ -13,14 +13,14 @@ use borrow.Author.Tests.{leb-true, ltb-true}
 use Rattle.magnetron.proofs.Tests.{holds}
 use Rattle.util.specs.DelayLine.{nextSlot, inRing}
 
-pub record InRing (position length : ℕ) : Type 0 where
-  pub small : length ≤ 32768
-  pub below : position < length
+pub record InRing (position slots : ℕ) : Type 0 where
+  pub small : slots ≤ 32768
+  pub below : position < slots
 
-pub within : {b : Bool} (position length : ℕ) → b ≡ inRing position length → not b ≡ false → InRing position length
+pub within : {b : Bool} (position slots : ℕ) → b ≡ inRing position slots → not b ≡ false → InRing position slots
 unfolding inRing
-within position length e left =
-    let t = and-eq-true-iff (leb length 32768) (ltb position length) .0 (holds e left) in
+within position slots e left =
+    let t = and-eq-true-iff (leb slots 32768) (ltb position slots) .0 (holds e left) in
     record { small = leb-true _ _ (t .0); below = ltb-true _ _ (t .1) }
 
 pub once-round : {k n : ℕ} → n ≤ k → k < n + n → k - n ≡ k % n

@@ -1,4 +1,5 @@
--- The delay line over the list of a ring's slots, and what each single operation on a ring leaves, for any input (01, "Delay line" and "What a run returns"). Assumes nothing.
+-- The delay line over the list of a ring's slots, and what each single operation on a ring leaves, for any input (01, "Delay line" and "What a run returns").
+-- A ring's length, where no list is at hand, is its number of `slots`. Assumes nothing.
 use Prim.Native.Nat.{ℕ, _+_, _-_, _%_}
 use mathlib.Core.Bool.{Bool, _&&_, cond}
 use mathlib.Core.List.{List}
@@ -26,7 +27,7 @@ slot ring k = getD ring (k % length ring) nan
 
 -- "Advance moves the position one slot round the ring."
 abbrev pub nextSlot : ℕ → ℕ → ℕ
-nextSlot length position = (position + 1) % length
+nextSlot slots position = (position + 1) % slots
 
 -- a reading of a ring at a position
 abbrev pub Reading : Type 0
@@ -38,12 +39,12 @@ delayed ring position = slot ring (position + 1)
 
 -- "For a fraction f: hold f in 0..1 (NaN to 0), offset = (length-1)*f"
 abbrev pub offsetOf : ℕ → Float → Float
-offsetOf length f = mul binary64 (ofInt binary64 (pos (length - 1))) (heldOf f zero64 one64)
+offsetOf slots f = mul binary64 (ofInt binary64 (pos (slots - 1))) (heldOf f zero64 one64)
 
 -- "c = offset rounded up, i = c - offset"
 unfoldable pub delayOf : ℕ → Float → Delay
-delayOf length f =
-    let offset = offsetOf length f in
+delayOf slots f =
+    let offset = offsetOf slots f in
     record { whole = ceilOf offset; rest = gapOf (ceilOf offset) offset }
 
 -- "result (1-i)*slot(position+length-c) + i*slot(position+length-c+1)"
@@ -64,7 +65,7 @@ readingOf (Fract f) = delayedFract f
 
 -- not "a length of 0 or above 32,768, or a position not below the length": a length of 0 has no position below it
 unfoldable pub inRing : ℕ → ℕ → Bool
-inRing position length = leb length 32768 && ltb position length
+inRing position slots = leb slots 32768 && ltb position slots
 
 -- "with 4 and stage 32"
 abbrev pub refused : Verdict
@@ -75,13 +76,13 @@ done = record { number = 0; stage = 32 }
 
 -- the delay of a ring of that length, and none where there is no such ring
 unfoldable pub delayAt : ℕ → Float → Delay
-delayAt length f = cond (inRing 0 length) (delayOf length f) (record { whole = 0; rest = zero64 })
+delayAt slots f = cond (inRing 0 slots) (delayOf slots f) (record { whole = 0; rest = zero64 })
 
 -- by value, and "where the host lent it, in a thin second form"
 unfoldable pub advanced : Cursor → ℕ → Moved
-advanced c length =
-    cond (inRing (c .position) length)
-    (record { verdict = done; cursor = record { position = nextSlot length (c .position) } })
+advanced c slots =
+    cond (inRing (c .position) slots)
+    (record { verdict = done; cursor = record { position = nextSlot slots (c .position) } })
     (record { verdict = refused; cursor = c })
 
 -- "a sample they would answer is then 0.0"

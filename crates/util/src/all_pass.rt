@@ -57,16 +57,16 @@ impl AllPassDelay {
     fn process(mut self, ring: &mut [f64], read: Read, input: f64) -> Passed
         ensures { λ r. ⌜ outcome r (now (ring .exit)) ≡ passed (readingOf read) self (now (ring .entry)) input ⌝ }
     {
-        let length = ring.len();
+        let slots = ring.len();
         let position = self.cursor.position;
-        if !in_ring(position, length) {
+        if !in_ring(position, slots) {
             return Passed {
                 verdict: REFUSED,
                 delay: self,
                 sample: 0.0,
             };
         }
-        let at = slot_after(length, position);
+        let at = slot_after(slots, position);
         let delayed = delayed_sample(ring, at, read);
         let remembered = input + self.feedback * delayed;
         ring[at] = remembered;

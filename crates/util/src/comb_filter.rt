@@ -80,16 +80,16 @@ impl CombFilter {
     fn process(self, ring: &mut [f64], read: Read, input: f64) -> Combed
         ensures { λ r. ⌜ outcome r (now (ring .exit)) ≡ combed (readingOf read) self (now (ring .entry)) input ⌝ }
     {
-        let length = ring.len();
+        let slots = ring.len();
         let position = self.cursor.position;
-        if !in_ring(position, length) {
+        if !in_ring(position, slots) {
             return Combed {
                 verdict: REFUSED,
                 comb: self,
                 sample: 0.0,
             };
         }
-        let at = slot_after(length, position);
+        let at = slot_after(slots, position);
         let delayed = delayed_sample(ring, at, read);
         let response = self.response;
         let responded = response.process_sample(delayed);

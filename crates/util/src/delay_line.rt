@@ -46,49 +46,49 @@ pub(crate) const REFUSED: Verdict = Verdict {
 };
 
 // Whether a single operation on a ring is not refused.
-pub(crate) fn in_ring(position: usize, length: usize) -> bool
-    ensures { λ r. ⌜ r ≡ inRing position length ⌝ }
+pub(crate) fn in_ring(position: usize, slots: usize) -> bool
+    ensures { λ r. ⌜ r ≡ inRing position slots ⌝ }
 {
-    if 32768 < length {
+    if 32768 < slots {
         return false;
     }
-    position < length
+    position < slots
 }
 
 // The slot after one of a ring.
-pub fn slot_after(length: usize, position: usize) -> usize
-    requires { ⌜ position < length ⌝ }
-    ensures { λ r. ⌜ (r ≡ nextSlot length position) × (r < length) ⌝ }
+pub(crate) fn slot_after(slots: usize, position: usize) -> usize
+    requires { ⌜ position < slots ⌝ }
+    ensures { λ r. ⌜ (r ≡ nextSlot slots position) × (r < slots) ⌝ }
 {
     let next = position + 1;
-    if next < length {
+    if next < slots {
         return next;
     }
     0
 }
 
 // The slot that many before one of a ring.
-fn slot_before(length: usize, position: usize, whole: usize) -> usize
-    requires { ⌜ (position < length) × (length ≤ 32768) × (whole < length) ⌝ }
-    ensures { λ r. ⌜ (r ≡ (position + length - whole) % length) × (r < length) ⌝ }
+fn slot_before(slots: usize, position: usize, whole: usize) -> usize
+    requires { ⌜ (position < slots) × (slots ≤ 32768) × (whole < slots) ⌝ }
+    ensures { λ r. ⌜ (r ≡ (position + slots - whole) % slots) × (r < slots) ⌝ }
 {
     if whole <= position {
         return position - whole;
     }
-    position + length - whole
+    position + slots - whole
 }
 
 // What a read at a fraction of the ring's length needs, worked out once for many samples: no delay where no ring has that length.
-pub fn delay_at(length: usize, fract_offset: f64) -> Delay
-    ensures { λ r. ⌜ r ≡ delayAt length «fract_offset» ⌝ }
+pub fn delay_at(slots: usize, fract_offset: f64) -> Delay
+    ensures { λ r. ⌜ r ≡ delayAt slots «fract_offset» ⌝ }
 {
-    if !in_ring(0, length) {
+    if !in_ring(0, slots) {
         return Delay {
             whole: 0,
             rest: 0.0,
         };
     }
-    let last = std::num::nearest_u64_to_f64((length - 1) as u64);
+    let last = std::num::nearest_u64_to_f64((slots - 1) as u64);
     let up = numbers::ceil::rounded_up(last * numbers::small::held(fract_offset, 0.0, 1.0));
     Delay {
         whole: up.whole as usize,
@@ -97,13 +97,13 @@ pub fn delay_at(length: usize, fract_offset: f64) -> Delay
 }
 
 // The two slots round the delay, with as much of the second as was added. Places are found by a test and not by a remainder, since this runs for each sample.
-pub fn heard_at(ring: &[f64], position: usize, delay: Delay) -> f64
+pub(crate) fn heard_at(ring: &[f64], position: usize, delay: Delay) -> f64
     requires { ⌜ (position < length (now ring)) × (length (now ring) ≤ 32768) × (delay .whole < length (now ring)) ⌝ }
     ensures { λ r. ⌜ r ≡ delayedBy delay (now (ring .entry)) position ⌝ }
 {
-    let length = ring.len();
-    let first = slot_before(length, position, delay.whole);
-    let second = slot_after(length, first);
+    let slots = ring.len();
+    let first = slot_before(slots, position, delay.whole);
+    let second = slot_after(slots, first);
     (1.0 - delay.rest) * ring[first] + delay.rest * ring[second]
 }
 
@@ -126,16 +126,16 @@ pub(crate) fn delayed_sample(ring: &[f64], position: usize, read: Read) -> f64
 
 impl Cursor {
     // One slot round the ring.
-    pub fn advance(mut self, length: usize) -> Moved
-        ensures { λ r. ⌜ r ≡ advanced self length ⌝ }
+    pub fn advance(mut self, slots: usize) -> Moved
+        ensures { λ r. ⌜ r ≡ advanced self slots ⌝ }
     {
-        if !in_ring(self.position, length) {
+        if !in_ring(self.position, slots) {
             return Moved {
                 verdict: REFUSED,
                 cursor: self,
             };
         }
-        self.position = slot_after(length, self.position);
+        self.position = slot_after(slots, self.position);
         Moved {
             verdict: DONE,
             cursor: self,

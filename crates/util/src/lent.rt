@@ -5,10 +5,10 @@ ghost use mathlib.Core.Path.{_≡_};
 ghost use Rattle.util.specs.DelayLine.{advanced};
 
 // Taken out, advanced by value, and put back.
-pub fn advance_lent(c: &mut Cursor, length: usize) -> Verdict
-    ensures { λ r. ⌜ (r ≡ advanced (now (c .entry)) length .verdict) × (now (c .exit) ≡ advanced (now (c .entry)) length .cursor) ⌝ }
+pub fn advance_lent(c: &mut Cursor, slots: usize) -> Verdict
+    ensures { λ r. ⌜ (r ≡ advanced (now (c .entry)) slots .verdict) × (now (c .exit) ≡ advanced (now (c .entry)) slots .cursor) ⌝ }
 {
-    let moved = c.advance(length);
+    let moved = c.advance(slots);
     *c = moved.cursor;
     moved.verdict
 }

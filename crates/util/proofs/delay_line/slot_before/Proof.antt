@@ -9,7 +9,7 @@ use Rattle.util.proofs.delay_line.slot_before.Statement.{statement}
 use Rattle.util.proofs.delay_line.slot_before.Tie as tie
 
 returns : tie.Need-returns
-returns c = (omega (arith, once-round {k = (c .before .args .position) + (c .before .args .length) - (c .before .args .whole)} {n = (c .before .args .length)} (omega arith) (omega arith)), omega arith)
+returns c = (omega (arith, once-round {k = (c .before .args .position) + (c .before .args .slots) - (c .before .args .whole)} {n = (c .before .args .slots)} (omega arith) (omega arith)), omega arith)
 
 add-result : tie.Need-add-result
 add-result c = search needs
