@@ -1,14 +1,14 @@
 /* The engine as a static library: what `rt staticlib host` exports, for C on x86-64. Link with -lm: oscillators call fmod.
  *
- * Records go by value and come back by value: what comes back is what to pass next time. Samples, zeros, rings, values and the order are
- * lent, each as a pointer and a count of elements. A pointer is used during the call and never after it; nothing is kept between calls and
- * nothing is allocated, so that engines with slices of their own may run at the same time. The records are large (a patch has 4,872 bytes,
- * the states 2,816) and stand on the stack.
+ * Records go by value and come back by value: what comes back is what to pass next time. A ring's cursor alone is changed where it stands.
+ * Samples, zeros, rings, values and the order are lent, each as a pointer and a count of elements. A pointer is used during the call and
+ * never after it; nothing is kept between calls and nothing is allocated, so that engines with slices of their own may run at the same
+ * time. The records are large (a patch has 4,872 bytes, the states 2,816) and stand on the stack.
  *
  * Every input gets an answer, and what each function answers is proved for any input; see crates/host/specs. A refusal says why by its
  * number and changes nothing: the records come back as they were passed, and no lent sample is touched. One thing is left to the caller: to
  * lend what it says it lends, `count` elements that may be read, or written where the pointer is not const, and that overlap no others. The
- * pointer may be NULL where the count is 0.
+ * pointer may be NULL where the count is 0; that of a cursor never is.
  *
  * Times are in seconds, frequencies in turns per second, phases in turns. Samples may become infinite or NaN, as arithmetic has it; the
  * sign and the payload of a NaN mean nothing. */
@@ -201,9 +201,15 @@ grynnadot_ran grynnadot_run(grynnadot_patch patch, const uint8_t *order, size_t 
                             size_t external_count, const double *zeros, size_t zeros_count, double *rings, size_t rings_count,
                             const double *values, size_t values_count);
 
-/* ---- a position, moved one slot round a ring of that length; refused with 4, and left as it is, where the length is 0 or over 32,768, or
- * the position is not below it */
+/* ---- a ring's cursor, where the host has it */
 
-grynnadot_verdict grynnadot_advance(size_t *position, size_t length);
+/* The slot of the ring that is written. */
+typedef struct {
+    size_t position;
+} grynnadot_cursor;
+
+/* Moves the cursor one slot round a ring of that length: from the last slot to 0. Answers 0; or 4 where the length is 0 or over 32,768, or
+ * the position is not below it, and the cursor is then left as it is. The stage is 32 in either case. */
+grynnadot_verdict grynnadot_advance(grynnadot_cursor *cursor, size_t ring_length);
 
 #endif

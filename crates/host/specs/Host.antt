@@ -7,19 +7,15 @@ use mathlib.Core.Bool.{Bool, cond}
 use mathlib.Core.List.{List}
 use lib.Dec.{eqb}
 use lib.Ieee.{Float}
-use Rattle.numbers.specs.Outcome.{Outcome, outcome}
 use Rattle.magnetron.specs.Activity.{rankOf}
 use Rattle.magnetron.specs.Buffers.{bufferOf}
 use Rattle.magnetron.specs.Single.{Lent, writeOf, Left as Written}
-use Rattle.magnetron.specs.declared.check.Verdict.{Verdict}
 use Rattle.magnetron.specs.declared.input.Inputs.{Inputs}
 use Rattle.magnetron.specs.declared.pool.Pools.{Pools}
 use Rattle.magnetron.specs.declared.write.Answer.{Answer}
 use Rattle.magnetron.specs.declared.write.OutLevel.{OutLevel}
 use Rattle.magnetron.specs.declared.write.OutLevel.the-variants.{Absent, Level}
 use Rattle.magnetron.specs.declared.write.Wrote.{Wrote}
-use Rattle.util.specs.DelayLine.{advanced}
-use Rattle.util.specs.declared.delay_line.Moved.{Moved}
 use Rattle.engine.specs.declared.run.Ran.{Ran}
 use Rattle.engine.specs.declared.state.States.{States}
 use Rattle.engine.specs.Run.{runOf, Left as Rendered}
@@ -31,13 +27,6 @@ use Rattle.host.specs.Patch.{unknownOf, patchOf}
 
 abbrev pub answerOf : Answer → FlatAnswer
 answerOf a = record { number = a .number; stage = a .stage; activity = rankOf (a .activity) }
-
--- ---- the ring's cursor
-
-unfoldable pub advancedAt : ℕ → ℕ → Outcome Verdict ℕ
-advancedAt position length =
-    let moved : Moved = advanced (record { position = position }) length in
-    outcome (moved .verdict) (moved .cursor .position)
 
 -- ---- a single write
 

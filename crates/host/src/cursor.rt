@@ -1,19 +1,14 @@
-// The ring's cursor where the host lends it, as the number that its record holds. Rests on `util` for the advance by value.
+// The ring's cursor where the host lends it, as its record. Rests on `util` for the lent advance.
 use magnetron::check::Verdict;
 use util::delay_line::Cursor;
+use util::lent::advance_lent;
 ghost use mathlib.Core.Path.{_≡_};
-ghost use Rattle.numbers.specs.Outcome.{outcome};
-ghost use Rattle.host.specs.Host.{advancedAt};
+ghost use Rattle.util.specs.DelayLine.{advanced};
 
-// One slot round a ring of that length. A refusal leaves the position as it is.
+// One slot round a ring of that length. A refusal leaves the cursor as it is.
 #[no_mangle]
-pub extern "C" fn grynnadot_advance(position: &mut usize, length: usize) -> Verdict
-    ensures { λ r. ⌜ outcome r (now (position .exit)) ≡ advancedAt (now (position .entry)) length ⌝ }
+pub extern "C" fn grynnadot_advance(cursor: &mut Cursor, slots: usize) -> Verdict
+    ensures { λ r. ⌜ (r ≡ advanced (now (cursor .entry)) slots .verdict) × (now (cursor .exit) ≡ advanced (now (cursor .entry)) slots .cursor) ⌝ }
 {
-    let cursor = Cursor {
-        position: *position,
-    };
-    let moved = cursor.advance(length);
-    *position = moved.cursor.position;
-    moved.verdict
+    advance_lent(cursor, slots)
 }

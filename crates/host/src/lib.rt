@@ -1,5 +1,6 @@
-// What a host in C or Rust links: pools, states, single writes and the run, as functions of numbers, lent slices and #[repr(C)] records by value.
-// No enum crosses: a patch comes as plain numbers, an activity leaves as its rank. Rests on `flat` for the numbers and on `engine` and `magnetron` for the work.
+// What a host in C or Rust links: pools, states, single writes, the run and a ring's cursor, as functions of numbers, lent slices and #[repr(C)] records.
+// Records go by value, but for the cursor, which is lent. No enum crosses: a patch comes as plain numbers, an activity leaves as its rank.
+// Rests on `flat` for the numbers and on `engine`, `magnetron` and `util` for the work.
 pub mod cursor;
 pub mod patch;
 pub mod pools;
