@@ -1,7 +1,11 @@
 // The two streams of words. Standard input is read into one lent buffer, and what goes to standard output is gathered in another, so that
 // one call moves many words. Rests on `words` for what a word is; no contract can say what is read or written.
+ghost use mathlib.Core.Path.{_≡_};
+ghost use mathlib.Core.List.{[], _∷_, map};
 ghost use Prim.Native.Nat.{_-_, _≤_};
-ghost use lib.ListN.{length};
+ghost use lib.ListN.{length, take};
+ghost use Rattle.words.specs.Number.{toWord};
+ghost use Rattle.stream.specs.Place.{started, refusedAt, refusedIf, sent, clearedBy, gathered, flagWord, Told, Writes, WritesFirst};
 use libc::STDIN_FILENO;
 use libc::STDOUT_FILENO;
 use words::reader::Cursor;
@@ -43,7 +47,9 @@ pub struct Few {
 
 impl Place {
     // Nothing is read yet, and nothing is to be sent.
-    pub fn start() -> Place {
+    pub fn start() -> Place
+        ensures { λ r. ⌜ r ≡ started ⌝ }
+    {
         Place {
             unread: Cursor { at: 0, end: 0 },
             filled: 0,
@@ -53,13 +59,17 @@ impl Place {
     }
 
     // All is over, and a last word is to say that it ended amiss.
-    pub fn refused(mut self) -> Place {
+    pub fn refused(mut self) -> Place
+        ensures { λ r. ⌜ r ≡ refusedAt self ⌝ }
+    {
         self.over = true;
         self.is_refused = true;
         self
     }
 
-    pub fn refused_if(self, wrong: bool) -> Place {
+    pub fn refused_if(self, wrong: bool) -> Place
+        ensures { λ r. ⌜ r ≡ refusedIf wrong self ⌝ }
+    {
         if wrong {
             return self.refused();
         }
@@ -191,7 +201,9 @@ impl Place {
     }
 
     // One more word of answers.
-    pub fn write(self, output: &mut Buffer, word: u64) -> Place {
+    pub fn write(self, output: &mut Buffer, word: u64) -> Place
+        ensures { λ r. ⌜ Writes (word ∷ []) (gathered self (now (output .entry))) (gathered r (now (output .exit))) ⌝ }
+    {
         let mut place = self.cleared(output, 0);
         let filled = place.filled;
         let Stored::Next(next) = words::writer::put(output, filled, word) else {
@@ -201,7 +213,9 @@ impl Place {
         place
     }
 
-    pub fn write_flag(self, output: &mut Buffer, flag: bool) -> Place {
+    pub fn write_flag(self, output: &mut Buffer, flag: bool) -> Place
+        ensures { λ r. ⌜ Writes (flagWord flag ∷ []) (gathered self (now (output .entry))) (gathered r (now (output .exit))) ⌝ }
+    {
         if flag {
             return self.write(output, 1);
         }
@@ -209,7 +223,9 @@ impl Place {
     }
 
     // All the samples are written.
-    pub fn write_samples(self, output: &mut Buffer, samples: &[f64]) -> Place {
+    pub fn write_samples(self, output: &mut Buffer, samples: &[f64]) -> Place
+        ensures { λ r. ⌜ Writes (map toWord (now (samples .entry))) (gathered self (now (output .entry))) (gathered r (now (output .exit))) ⌝ }
+    {
         let mut place = self;
         let mut count = 0;
         while count < samples.len() {
@@ -226,7 +242,9 @@ impl Place {
     }
 
     // The first samples are written; where there are not so many, the case is refused.
-    pub fn write_first(self, output: &mut Buffer, samples: &[f64], length: usize) -> Place {
+    pub fn write_first(self, output: &mut Buffer, samples: &[f64], length: usize) -> Place
+        ensures { λ r. ⌜ WritesFirst (now (samples .entry)) length (gathered self (now (output .entry))) (gathered r (now (output .exit))) ⌝ }
+    {
         if samples.len() < length {
             return self.refused();
         }
@@ -234,7 +252,9 @@ impl Place {
     }
 
     // The first `count` of sixteen words are written.
-    pub fn write_words(self, output: &mut Buffer, words: [u64; 16], count: usize) -> Place {
+    pub fn write_words(self, output: &mut Buffer, words: [u64; 16], count: usize) -> Place
+        ensures { λ r. ⌜ Writes (take count words) (gathered self (now (output .entry))) (gathered r (now (output .exit))) ⌝ }
+    {
         let mut place = self;
         let mut k = 0;
         while k < 16 {
@@ -248,19 +268,24 @@ impl Place {
     }
 
     // There is room for a word of answers, and none is held back while the program waits for `want` bytes.
-    pub fn cleared(self, output: &Buffer, want: usize) -> Place {
+    pub fn cleared(self, output: &Buffer, want: usize) -> Place
+        ensures { λ r. ⌜ Told (λ taken. clearedBy taken (length (now (output .entry))) want self) r ⌝ }
+    {
         let unread = self.unread;
+        let bytes: &[u8] = output;
         if unread.left() < want {
-            return self.send(output);
+            return self.send(bytes);
         }
-        if self.filled <= output.len() - 8 {
+        if self.filled <= bytes.len() - 8 {
             return self;
         }
-        self.send(output)
+        self.send(bytes)
     }
 
     // The answers that were gathered are written out.
-    pub fn send(mut self, output: &[u8]) -> Place {
+    pub fn send(mut self, output: &[u8]) -> Place
+        ensures { λ r. ⌜ Told (λ taken. sent taken (length (now (output .entry))) self) r ⌝ }
+    {
         let filled = self.filled;
         self.filled = 0;
         if output.len() < filled {
