@@ -1,5 +1,10 @@
 // The pools that a case lends: their sizes, the lengths of the slices that are lent with them, and the stale marks. Any of it may be bad:
 // the engine is what refuses. Rests on `stream` for the words.
+ghost use mathlib.Core.Path.{_≡_};
+ghost use mathlib.Core.List.{map};
+ghost use Rattle.magnetron.specs.Pools.{marksIn};
+ghost use Rattle.stream.specs.Place.{gathered, flagWord, Writes};
+ghost use Rattle.parts.specs.Marks.{markWords};
 use magnetron::buffer::Marks;
 use magnetron::pool::Pool;
 use magnetron::pool::Pools;
@@ -90,7 +95,9 @@ fn marks_of(words: [u64; 16]) -> [bool; 16] {
 }
 
 // The marks of both pools.
-pub fn write_marks(start: Place, pools: Pools, output: &mut Buffer) -> Place {
+pub fn write_marks(start: Place, pools: Pools, output: &mut Buffer) -> Place
+    ensures { λ r. ⌜ Writes (markWords (marksIn pools)) (gathered start (now (output .entry))) (gathered r (now (output .exit))) ⌝ }
+{
     let marks = pools.marks();
     let internal = marks.internal;
     let external = marks.external;
@@ -98,7 +105,9 @@ pub fn write_marks(start: Place, pools: Pools, output: &mut Buffer) -> Place {
     inside.write_words(output, words_of(external), 16)
 }
 
-fn words_of(marks: [bool; 16]) -> [u64; 16] {
+fn words_of(marks: [bool; 16]) -> [u64; 16]
+    ensures { λ r. ⌜ r ≡ map flagWord marks ⌝ }
+{
     let mut words = [0u64; 16];
     let mut k = 0;
     while k < 16 {
