@@ -54,7 +54,7 @@ struct Request {
     n: usize,
     buffer: usize,
     level: OutLevel,
-    length: usize,
+    count: usize,
     first: usize,
     second: usize,
 }
@@ -237,7 +237,7 @@ fn read_request(start: Place, sort: u64, input: &mut Buffer) -> Request {
         n: head.a as usize,
         buffer: head.b as usize,
         level: out_level(mark.a, level.a),
-        length: value_count(operation, tail.a),
+        count: value_count(operation, tail.a),
         first: tail.a as usize,
         second: tail.b as usize,
     }
@@ -267,9 +267,9 @@ fn count(operation: u64, part: u64) -> u64 {
     COUNTS[(operation * 3 + part) as usize]
 }
 
-fn value_count(operation: u64, length: u64) -> usize {
+fn value_count(operation: u64, count: u64) -> usize {
     if operation == WRITE_VALUES {
-        return length as usize;
+        return count as usize;
     }
     0
 }
@@ -284,19 +284,19 @@ fn out_level(mark: u64, bits: u64) -> OutLevel {
 // The values that a write is lent.
 fn read_values(request: Request, input: &mut Buffer, values: &mut Cells) -> Place {
     let place = request.place;
-    let length = request.length;
-    if MOST_VALUES < length {
+    let count = request.count;
+    if MOST_VALUES < count {
         return place.refused();
     }
-    place.read_first(input, values, length)
+    place.read_first(input, values, count)
 }
 
 // The first samples; none where there are not so many.
-fn part(samples: &[f64], length: usize) -> &[f64] {
-    if samples.len() < length {
+fn part(samples: &[f64], count: usize) -> &[f64] {
+    if samples.len() < count {
         return &samples[0..0];
     }
-    &samples[0..length]
+    &samples[0..count]
 }
 
 // One operation, on the parts that are lent.
@@ -358,7 +358,7 @@ fn write(
     let operation = request.operation;
     match operation {
         WRITE_VALUES => {
-            let lent = part(values, request.length);
+            let lent = part(values, request.count);
             return read_0_write_1(pools, internal, external, zeros, output, level, n, lent);
         }
         2 => {

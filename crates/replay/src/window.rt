@@ -44,7 +44,7 @@ struct Asked {
     prepares: bool,
     n: usize,
     width: f64,
-    length: usize,
+    count: usize,
     order: [u8; 64],
 }
 
@@ -58,7 +58,7 @@ struct AskedRead {
 // An order, and the place after it.
 struct Order {
     place: Place,
-    length: usize,
+    count: usize,
     numbers: [u8; 64],
 }
 
@@ -114,7 +114,7 @@ fn read_window(
     values: &mut Values,
 ) -> AskedRead
     requires { ⌜ Fit common ⌝ }
-    ensures { λ r. ⌜ r .asked .length ≤ 64 ⌝ }
+    ensures { λ r. ⌜ r .asked .count ≤ 64 ⌝ }
 {
     let opening = open(start, input);
     let set = set_external(opening, pools, common.lengths.external, input, external);
@@ -131,7 +131,7 @@ fn read_window(
             prepares: opening.prepares,
             n: opening.n,
             width: opening.width,
-            length: read.length,
+            count: read.count,
             order,
         },
     }
@@ -141,15 +141,15 @@ fn read_window(
 fn open(start: Place, input: &mut Buffer) -> Opening {
     let does = start.next_up_to(input, 3);
     let after = does.place;
-    let length = after.next(input);
-    let between = length.place;
+    let samples = after.next(input);
+    let between = samples.place;
     let width = between.next(input);
     let place = width.place;
     Opening {
         place,
         prepares: does.word % 2 == 1,
         sets: does.word > 1,
-        n: length.word as usize,
+        n: samples.word as usize,
         width: from_word(width.word),
     }
 }
@@ -173,14 +173,14 @@ fn set_external(
 
 // At most 64 numbers, each of at most 255.
 fn read_order(start: Place, input: &mut Buffer) -> Order
-    ensures { λ r. ⌜ r .length ≤ 64 ⌝ }
+    ensures { λ r. ⌜ r .count ≤ 64 ⌝ }
 {
-    let count = start.next_up_to(input, 64);
-    let length = count.word as usize;
-    let mut place = count.place;
+    let head = start.next_up_to(input, 64);
+    let count = head.word as usize;
+    let mut place = head.place;
     let mut numbers = [0u8; 64];
     let mut k = 0;
-    while k < length {
+    while k < count {
         let next = place.next_up_to(input, 255);
         numbers[k] = next.word as u8;
         place = next.place;
@@ -188,7 +188,7 @@ fn read_order(start: Place, input: &mut Buffer) -> Order
     }
     Order {
         place,
-        length,
+        count,
         numbers,
     }
 }
@@ -207,7 +207,7 @@ fn render(
     rings: &mut Cells,
 ) -> Ran
     requires { ⌜ Fit common ⌝ }
-    requires { ⌜ asked .length ≤ 64 ⌝ }
+    requires { ⌜ asked .count ≤ 64 ⌝ }
 {
     let ready = prepare_asked(asked, pools, common.lengths, internal, external, zeros);
     if ready.verdict.number != 0 {
@@ -270,10 +270,10 @@ fn run_asked(
     rings: &mut [f64],
 ) -> Ran
     requires { ⌜ Within (common .lengths) (length (now internal)) (length (now external)) (length (now zeros)) ⌝ }
-    requires { ⌜ (common .values ≤ length (now values)) × (common .rings ≤ length (now rings)) × (asked .length ≤ 64) ⌝ }
+    requires { ⌜ (common .values ≤ length (now values)) × (common .rings ≤ length (now rings)) × (asked .count ≤ 64) ⌝ }
 {
     let order = asked.order;
-    let length = asked.length;
+    let count = asked.count;
     let inside = common.lengths.internal;
     let outside = common.lengths.external;
     let zero = common.lengths.zeros;
@@ -281,7 +281,7 @@ fn run_asked(
     let ring = common.rings;
     run(
         patch,
-        &order[0..length],
+        &order[0..count],
         pools,
         states,
         asked.n,

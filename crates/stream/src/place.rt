@@ -179,11 +179,11 @@ impl Place {
     }
 
     // The first samples are read; where there are not so many, the case is refused.
-    pub fn read_first(self, input: &mut Buffer, samples: &mut [f64], length: usize) -> Place {
-        if samples.len() < length {
+    pub fn read_first(self, input: &mut Buffer, samples: &mut [f64], count: usize) -> Place {
+        if samples.len() < count {
             return self.refused();
         }
-        self.read_samples(input, &mut samples[0..length])
+        self.read_samples(input, &mut samples[0..count])
     }
 
     // At least `want` bytes are unread, or the input has ended.
@@ -242,13 +242,13 @@ impl Place {
     }
 
     // The first samples are written; where there are not so many, the case is refused.
-    pub fn write_first(self, output: &mut Buffer, samples: &[f64], length: usize) -> Place
-        ensures { λ r. ⌜ WritesFirst (now (samples .entry)) length (gathered self (now (output .entry))) (gathered r (now (output .exit))) ⌝ }
+    pub fn write_first(self, output: &mut Buffer, samples: &[f64], count: usize) -> Place
+        ensures { λ r. ⌜ WritesFirst (now (samples .entry)) count (gathered self (now (output .entry))) (gathered r (now (output .exit))) ⌝ }
     {
-        if samples.len() < length {
+        if samples.len() < count {
             return self.refused();
         }
-        self.write_samples(output, &samples[0..length])
+        self.write_samples(output, &samples[0..count])
     }
 
     // The first `count` of sixteen words are written.

@@ -1,15 +1,14 @@
--- `replay::window::read_order` is safe and ends: k counts up to the length, which is at most 64. Assumes nothing.
+-- `replay::window::read_order` is safe and ends: k counts up to what is asked for, at most 64. Assumes nothing.
 use Prim.Native.Nat.{_≤_, _-_}
 use borrow.Author.Needs.{needs}
-use lib.ListN.{length}
 use Rattle.replay.proofs.window.read_order.Statement.{statement}
 use Rattle.replay.proofs.window.read_order.Tie as tie
 
 abbrev Inv-loop : tie.InvT-loop
-Inv-loop input₀ length place₀ numbers₀ k₀ input place numbers k = length ≤ 64
+Inv-loop input₀ count place₀ numbers₀ k₀ input place numbers k = count ≤ 64
 
 abbrev μ-loop : tie.MeasureT-loop
-μ-loop input₀ length place₀ numbers₀ k₀ input place numbers k = length - k
+μ-loop input₀ count place₀ numbers₀ k₀ input place numbers k = count - k
 
 next-up-to-requires : tie.Need-next-up-to-requires Inv-loop μ-loop
 next-up-to-requires c κs = search needs

@@ -16,9 +16,9 @@ part-run-start c = search needs
 part-run-end : tie.Need-part-run-end
 part-run-end c =
     let s = c .before .before .before .before .before .before .before in
-    let held : s .args .asked .length ≤ 64 = s .pre .1 .2 in
+    let held : s .args .asked .count ≤ 64 = s .pre .1 .2 in
     let room : length (s .args .asked .order) ≡ 64 = sym (length-map (s .args .asked .order) (λ x. x)) ∙ s .good .0 .1 .1 .1 .1 .1 .1 .0 .1 .0 .1 in
-    let fits : s .args .asked .length ≤ length (s .args .asked .order) = omega arith in
+    let fits : s .args .asked .count ≤ length (s .args .asked .order) = omega arith in
     fits
 
 sub-run-2 : tie.Need-sub-run-2

@@ -26,7 +26,7 @@ write-samples-requires c κs = search needs
 
 returns-2 : tie.Need-returns-2
 returns-2 c =
-    let count = c .before .before .before .before .before .args .length in
+    let count = c .before .before .before .before .before .args .count in
     let e : count - 0 ≡ count = omega arith in
     record { short = λ h. absurd (omega arith); long = λ h. rw e at (c .write-samples .ensures) }
 
