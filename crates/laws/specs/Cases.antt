@@ -131,6 +131,6 @@ table =
     -- 12: "Adding 1e16, -1e16, 1 gives 1; 1e16, 1, -1e16 gives 0: such writers may not change places."
     ∷ a-run terms 1 (1 ∷ 2 ∷ 3 ∷ []) (accepted Internal) (whole 1 ∷ e16 ∷ neg e16 ∷ whole 1 ∷ [])
     ∷ a-run terms 1 (1 ∷ 3 ∷ 2 ∷ []) (accepted Internal) (whole 0 ∷ e16 ∷ neg e16 ∷ whole 1 ∷ [])
-    -- 13: "Empty order, checks 1 to 4 passed: 0, Exhausted."
+    -- 13: "Empty order, checks 1 to 4 passed: 0, Exhausted." Here one run; of any input, `thirteen` of proofs/Listed.antt
     ∷ a-run terms 1 [] (accepted Exhausted) (whole 0 ∷ e16 ∷ neg e16 ∷ whole 1 ∷ [])
     ∷ []
