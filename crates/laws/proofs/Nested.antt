@@ -5,13 +5,12 @@
 --     inner-run-else     changes nothing else of the outer pools' record
 --     inner-refused      leaves them as they were
 -- It says nothing of samples: the outer internal slice is the one that the inner run is lent, and `runOf` says what it leaves there. Assumes nothing.
-use mathlib.Core.Path.{_≡_, refl, sym, ap, ap₂, _∙_}
+use mathlib.Core.Path.{_≡_, refl, sym, ap, _∙_}
 use mathlib.Core.Logic.{_≢_}
-use mathlib.Core.Bool.{Bool, true, false, not, _&&_, _||_, true≢false, and-true, and-false, and-assoc}
+use mathlib.Core.Bool.{Bool, true, false, not, _&&_, _||_, true≢false, and-true, and-false}
 use mathlib.Core.List.{List, [], _∷_}
 use mathlib.Core.Option.{Option, none, some}
 use Prim.Native.Nat.{ℕ, zero, suc}
-use lib.Dec.{eqb}
 use lib.ListN.{getD, set}
 use lib.Ieee.{Float}
 use borrow.Author.Tests.{eqb-true}
@@ -19,7 +18,7 @@ use Rattle.order.specs.Order.{runs}
 use Rattle.order.specs.Checks.{passed}
 use Rattle.magnetron.specs.Buffers.{sameBuffer, hits, marksOf, staleAt, cleared}
 use Rattle.magnetron.specs.Pools.{marksIn, marked}
-use Rattle.magnetron.specs.Single.{Lent, lent, preparedOf}
+use Rattle.magnetron.specs.Single.{lent, preparedOf}
 use Rattle.magnetron.specs.declared.buffer.BufferIndex.{BufferIndex}
 use Rattle.magnetron.specs.declared.buffer.BufferIndex.the-variants.{External, Internal}
 use Rattle.magnetron.specs.declared.buffer.Marks.{Marks}
@@ -30,7 +29,7 @@ use Rattle.magnetron.proofs.Stores.{mark-other, differ}
 use Rattle.magnetron.proofs.Stays.{prepare-keeps}
 use Rattle.engine.specs.declared.stage.Patch.{Patch}
 use Rattle.engine.specs.declared.state.States.{States}
-use Rattle.engine.specs.Run.{Plan, World, outsAt, step, putPlayed, turned, judged, ended, rendered, Left, leftBy, windowOf, planOf, worldOf, runOf}
+use Rattle.engine.specs.Run.{Plan, World, outsAt, step, putPlayed, judged, ended, rendered, Left, leftBy, windowOf, planOf, worldOf, runOf}
 use Rattle.engine.proofs.Along.{write-marks}
 use Rattle.laws.specs.Nested.{innerPools, outerPools, writes}
 use Rattle.laws.proofs.Refusals.{refused-unchanged}
@@ -113,7 +112,7 @@ module _ (inner outer : Pools) (n : ℕ) (internal external zeros : List Float) 
     unfolding runOf
     inner-run e k =
         ap (λ (l : Left). staleAt (Internal k) (marksIn (outerPools outer (l .ran .pools)))) (went plan zeros order world (went-through e))
-        ∙ (unfold ended leftBy staleAt in (unfold staleAt in stale-after plan (External k) order world))
+        ∙ (unfold ended leftBy staleAt in stale-after plan (External k) order world)
 
     pub inner-run-else : after ≡ record { internal = marked (outer .internal) (run .ran .pools .external .stale); external = outer .external; reset = outer .reset }
     unfolding runOf rendered

@@ -1,6 +1,6 @@
 -- "a run changes only its own kind's part" of a stage's state record: of any run, accepted or refused, and any stage, ordered or not.
 -- What a kind's part is, `specs/Families.antt` says. Assumes nothing.
-use mathlib.Core.Path.{_≡_, refl, ap, _∙_}
+use mathlib.Core.Path.{_≡_, refl, _∙_}
 use mathlib.Core.List.{List, [], _∷_}
 use mathlib.Core.Option.{Option, none, some}
 use Prim.Native.Nat.{ℕ, zero, suc}

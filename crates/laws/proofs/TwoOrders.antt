@@ -4,7 +4,7 @@
 --     same-ended        where they pass: activity, buffers, states and rings
 --     same-left         both together
 -- Assumes nothing.
-use mathlib.Core.Path.{_≡_, refl, sym, ap, ap₂, _∙_}
+use mathlib.Core.Path.{_≡_, refl, sym, ap, _∙_}
 use mathlib.Core.Logic.{_≢_, _⊎_, inl, inr, ⊎-elim}
 use mathlib.Core.Bool.{Bool, true, false, _&&_, _||_, true≢false, false≢true, and-assoc, and-comm}
 use mathlib.Core.List.{List, [], _∷_}

@@ -2,7 +2,7 @@
 --     clear-waits, clear-full, clear-keeps     clearing, by what the code tests
 --     written, writes-append                   one word, and two rows of words
 --     words-one, words-done                    a turn of a loop that writes a list, and its end
---     samples-turn, samples-some, samples-done a turn of the loop that pours samples: they are written word by word, and at least one is; and its end
+--     samples-turn, samples-some, samples-done a turn of the loop that pours samples, which writes them word by word; that it writes one; its end
 -- Assumes nothing.
 use mathlib.Core.Path.{_≡_, refl, sym, subst}
 use mathlib.Core.Logic.{inl, inr, ⊎-elim}
@@ -100,7 +100,7 @@ module _ (p q : Place) (bytes : List ℕ) (long : 8 ≤ length bytes) where
   room-by : (taken : Bool) → q ≡ clearedBy taken (length bytes) 0 p → q .filled + 8 ≤ length bytes
   room-by taken e = rw e (room taken (length bytes) p long)
 
-  -- the word is written to the same effect before and after
+  -- the word is written to the same effect before clearing and after it
   again : (taken once-more : Bool) (w : ℕ) → q ≡ clearedBy taken (length bytes) 0 p → wrote once-more w (gathered q bytes) ≡ wrote taken w (gathered p bytes)
   unfolding wrote
   again taken once-more w e = rw (clear-not once-more (length bytes) q (room-by taken e), ← e)

@@ -5,7 +5,7 @@ use mathlib.Core.Logic.{_⊎_}
 use mathlib.Core.Bool.{Bool, true, false, not, _||_, cond}
 use mathlib.Core.List.{List, [], _∷_, map}
 use Prim.Native.Nat.{ℕ, _+_, _-_, _<_, _≤_}
-use lib.Dec.{leb, ltb}
+use lib.Dec.{ltb}
 use lib.Ieee.{Float}
 use lib.ListN.{length, take}
 use Rattle.words.specs.Number.{toWord}
@@ -27,11 +27,11 @@ refusedIf wrong p = cond wrong (refusedAt p) p
 abbrev pub filledTo : ℕ → Place → Place
 filledTo n p = record { unread = p .unread; filled = n; over = p .over; «is_refused» = p .«is_refused» }
 
--- What was gathered is sent, out of a buffer of so many bytes. Refused where fewer are there than were gathered, or where they were not taken.
+-- What was gathered is sent, out of a buffer of `size` bytes. Refused where it holds fewer than were gathered, or where they were not taken.
 unfoldable pub sent : Bool → ℕ → Place → Place
 sent taken size p = refusedIf (ltb size (p .filled) || not taken) (filledTo 0 p)
 
--- Sent where the program has to wait for `want` bytes, fewer being unread, or where less than a word's room is left.
+-- Sent where the program is to wait for `want` bytes, since fewer are unread, or where less than a word's room is left.
 unfoldable pub clearedBy : Bool → ℕ → ℕ → Place → Place
 clearedBy taken size want p =
     cond (ltb (p .unread .end - p .unread .at) want || ltb size (p .filled + 8)) (sent taken size p) p

@@ -1,5 +1,6 @@
 // The two streams of words. Standard input is read into one lent buffer, and what goes to standard output is gathered in another, so that
-// one call moves many words. Rests on `words` for what a word is; no contract can say what is read or written.
+// one call moves many words. Rests on `words` for what a word is. No contract can say what is read, nor whether standard output takes what it
+// is sent; of the functions that do not read, that answer is all that the contracts leave open.
 ghost use mathlib.Core.Path.{_≡_};
 ghost use mathlib.Core.List.{[], _∷_, map};
 ghost use Prim.Native.Nat.{_-_, _≤_};
@@ -272,6 +273,7 @@ impl Place {
         ensures { λ r. ⌜ Told (λ taken. clearedBy taken (length (now (output .entry))) want self) r ⌝ }
     {
         let unread = self.unread;
+        // As a slice: only of that does the check know the length.
         let bytes: &[u8] = output;
         if unread.left() < want {
             return self.send(bytes);

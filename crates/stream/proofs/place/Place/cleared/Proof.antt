@@ -1,5 +1,4 @@
 -- `stream::place::Place::cleared` meets its contract, by what it tests. Assumes nothing.
-use Prim.Native.Nat.{_+_, _-_, _<_, _≤_}
 use native.Mathlib.Omega.{arith}
 use lib.ListN.{length}
 use Rattle.stream.proofs.Writes.{clear-waits, clear-full, clear-keeps}

@@ -1,6 +1,6 @@
 -- `stream::place::Place::write_samples` meets its contract. The loop's invariant: where what is left is written from here on, all is written.
 -- Each turn writes a sample or more, since there is room for one. Assumes nothing.
-use Prim.Native.Nat.{_-_, _<_, _≤_}
+use Prim.Native.Nat.{_-_}
 use mathlib.Core.List.{map}
 use native.Mathlib.Omega.{arith}
 use borrow.Author.Needs.{needs}

@@ -1,10 +1,9 @@
 -- `stream::place::Place::write_words` meets its contract. The loop's invariant: where what is left is written from here on, all is written.
 -- Assumes nothing.
-use Prim.Native.Nat.{_+_, _-_, _<_, _≤_}
-use mathlib.Core.List.{[], _∷_}
+use Prim.Native.Nat.{_-_, _<_}
 use native.Mathlib.Omega.{arith}
 use borrow.Author.Needs.{needs}
-use lib.ListN.{length, getD, take, drop, length-take}
+use lib.ListN.{take, drop, length-take}
 use lib.Seq.{getD-take}
 use Rattle.stream.specs.Place.{Gathered, gathered, Writes}
 use Rattle.stream.proofs.Writes.{words-one, words-done}
