@@ -3,12 +3,13 @@ use magnetron::check::Verdict;
 use util::delay_line::Cursor;
 use util::lent::advance_lent;
 ghost use mathlib.Core.Path.{_≡_};
-ghost use Rattle.util.specs.DelayLine.{advanced};
+ghost use Rattle.numbers.specs.Outcome.{outcome};
+ghost use Rattle.util.specs.DelayLine.{advancedThere};
 
 // One slot round a ring of that length. A refusal leaves the cursor as it is.
 #[no_mangle]
 pub extern "C" fn grynnadot_advance(cursor: &mut Cursor, slots: usize) -> Verdict
-    ensures { λ r. ⌜ (r ≡ advanced (now (cursor .entry)) slots .verdict) × (now (cursor .exit) ≡ advanced (now (cursor .entry)) slots .cursor) ⌝ }
+    ensures { λ r. ⌜ outcome r (now (cursor .exit)) ≡ advancedThere (now (cursor .entry)) slots ⌝ }
 {
     advance_lent(cursor, slots)
 }

@@ -1,11 +1,13 @@
--- The premises of `Cookbook.antt` can be met: 0, 1 and 2 modulo 3 are a field in which two is not zero. Each law is computed for all of them at once. Assumes nothing.
+-- The premises of `Cookbook.antt` can be met: 0, 1 and 2 modulo 3 are a field in which two is not zero, and has a Q that is not 1. Each law is computed for all of
+-- them at once. Assumes nothing.
 use Prim.Native.Nat.{ℕ}
 use native.Mathlib.Omega.{arith}
 use mathlib.Core.Path.{_≡_, refl, ap}
+use mathlib.Core.Logic.{_≢_}
 use Rattle.microwave.specs.Arithmetic.{Arithmetic, Field}
-use Rattle.microwave.specs.Biquads.{Kind, atTurns}
-use Rattle.microwave.specs.Cookbook.{Circle, cookbook, sineOfTurns, cosineOfTurns}
-use Rattle.microwave.proofs.Cookbook.{agrees}
+use Rattle.microwave.specs.Biquads.{Kind, BandPass, alphaOf, coefficientsOf, atTurns}
+use Rattle.microwave.specs.Cookbook.{Circle, otherBandPass, cookbook, sineOfTurns, cosineOfTurns}
+use Rattle.microwave.proofs.Cookbook.{agrees, no-other}
 
 pub data Three : Type 0 where
   zero₃ : Three
@@ -88,3 +90,9 @@ one-nonzero e = let z : _≡_ {A = ℕ} 0 1 = cc in omega arith
 
 pub agrees-in-three : (c : Circle three) (f0 : Three) (k : Kind) → atTurns three (sineOfTurns three c) (cosineOfTurns three c) k (times f0 (times one₃ one₃)) one₃ ≡ cookbook three c k f0 one₃ one₃
 agrees-in-three c f0 = agrees three-is-a-field two-nonzero one₃ one-nonzero c f0 one₃ one-nonzero
+
+two-is-not-one : two₃ ≡ one₃ → ⊥
+two-is-not-one e = let z : _≡_ {A = ℕ} 0 1 = cc in omega arith
+
+pub no-other-in-three : (cos : Three) → coefficientsOf three BandPass cos (alphaOf three one₃ two₃) two₃ ≢ otherBandPass three one₃ cos two₃
+no-other-in-three cos = no-other three-is-a-field two-nonzero two₃ two-nonzero one₃ cos two-is-not-one one-nonzero

@@ -78,7 +78,7 @@ module _ (A : Arithmetic) where
     a2 = 𝟏 ⊖ alpha sin Q;
   }
 
-  -- the same at a frequency f0 and a sampling frequency Fs
+  -- a kind's coefficients at a frequency f0 and a sampling frequency Fs
   abbrev pub cookbook : Circle → Kind → Number → Number → Number → Coefficients Number
   cookbook c kind f0 Fs Q = formulas kind (c .sin (w0 c f0 Fs)) (c .cos (w0 c f0 Fs)) Q
 

@@ -34,11 +34,11 @@ pub(crate) fn perform(device: Device, ring: &mut [f64], operation: u64, x: f64) 
 }
 
 // The cursor is lent for the advance, and is back after it.
-fn advance_where_lent(position: usize, length: usize) -> Moved
-    ensures { λ r. ⌜ r ≡ advanced (record { position = position }) length ⌝ }
+fn advance_where_lent(position: usize, slots: usize) -> Moved
+    ensures { λ r. ⌜ r ≡ advanced (record { position = position }) slots ⌝ }
 {
     let mut cursor = Cursor { position };
-    let verdict = advance_lent(&mut cursor, length);
+    let verdict = advance_lent(&mut cursor, slots);
     Moved { verdict, cursor }
 }
 

@@ -11,14 +11,14 @@ use ghost.Atoms.{Atoms}
 use contract.Monad.{Fun, fact}
 use denote.Ref.{RefT, now}
 use contract.Lifetimes.{Lfts}
-use Rattle.numbers.specs.Outcome.{Answer, Determined, as-follows, by-definition, outcome, both}
+use Rattle.numbers.specs.Outcome.{Answer, Determined, as-follows, by-definition, outcome}
 use Rattle.magnetron.specs.declared.check.Verdict.{Verdict}
 use Rattle.util.specs.declared.delay_line.Cursor.{Cursor}
 use Rattle.util.specs.declared.soft_clip.SoftClip.{SoftClip}
 use Rattle.util.specs.declared.low_pass.OnePoleLowPass.{OnePoleLowPass}
 use Rattle.util.specs.declared.interaction.LowPassGain.{LowPassGain}
 use Rattle.util.specs.declared.interaction.AnyInteraction.{AnyInteraction}
-use Rattle.util.specs.DelayLine.{advanced}
+use Rattle.util.specs.DelayLine.{advancedThere}
 use Rattle.util.specs.Interaction.{Step}
 use Rattle.util.specs.Comb.{Comb}
 use Rattle.util.proofs.delay_line.delay_at.Reads as delay-at
@@ -100,11 +100,11 @@ all-pass-determined = (by-definition, by-definition, by-definition, by-definitio
 
 -- ---- proved by a walk, so that there is no `Reads`: `lent-is` says by `refl` that what is written here is its `ensures`
 abbrev pub Lent : RefT Cursor × ℕ → Verdict → RefT Cursor → Type 0
-Lent a r c = (r ≡ advanced (now (a .0)) (a .1) .verdict) × (now c ≡ advanced (now (a .0)) (a .1) .cursor)
+Lent a r c = outcome r (now c) ≡ advancedThere (now (a .0)) (a .1)
 
 pub lent-is : {M : Type 1} (𝓤 : URA M) (H : Heap 𝓤) (A : Atoms 𝓤) (at-mem : Memory → SProp 𝓤) (run : Routine → Fun 𝓤) (κs : Lfts 1) (c c′ : RefT Cursor) (n : ℕ) (r : Verdict)
     → lent.ensures-1 𝓤 H κs A at-mem run c n (record { entry = c; exit = c′ }) (record { entry = n; exit = n }) r ≡ fact 𝓤 (Lent (c, n) r c′)
 lent-is 𝓤 H A at-mem run κs c c′ n r = refl
 
 pub lent-determined : Determined (λ r s. outcome r (now s)) (λ (κs : Lfts 1). Lent)
-lent-determined = as-follows (λ κs a r s p. both (p .0) (p .1))
+lent-determined = by-definition

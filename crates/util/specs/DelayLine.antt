@@ -78,12 +78,15 @@ done = record { number = 0; stage = 32 }
 unfoldable pub delayAt : ℕ → Float → Delay
 delayAt slots f = cond (inRing 0 slots) (delayOf slots f) (record { whole = 0; rest = zero64 })
 
--- by value, and "where the host lent it, in a thin second form"
 unfoldable pub advanced : Cursor → ℕ → Moved
 advanced c slots =
     cond (inRing (c .position) slots)
     (record { verdict = done; cursor = record { position = nextSlot slots (c .position) } })
     (record { verdict = refused; cursor = c })
+
+-- "where the host lent it, in a thin second form": the answer, and the cursor as it stands then
+abbrev pub advancedThere : Cursor → ℕ → Outcome Verdict Cursor
+advancedThere c slots = outcome (advanced c slots .verdict) (advanced c slots .cursor)
 
 -- "a sample they would answer is then 0.0"
 unfoldable pub heard : Reading → Cursor → List Float → Heard

@@ -2,11 +2,12 @@
 use crate::delay_line::Cursor;
 use magnetron::check::Verdict;
 ghost use mathlib.Core.Path.{_≡_};
-ghost use Rattle.util.specs.DelayLine.{advanced};
+ghost use Rattle.numbers.specs.Outcome.{outcome};
+ghost use Rattle.util.specs.DelayLine.{advancedThere};
 
 // Taken out, advanced by value, and put back.
 pub fn advance_lent(c: &mut Cursor, slots: usize) -> Verdict
-    ensures { λ r. ⌜ (r ≡ advanced (now (c .entry)) slots .verdict) × (now (c .exit) ≡ advanced (now (c .entry)) slots .cursor) ⌝ }
+    ensures { λ r. ⌜ outcome r (now (c .exit)) ≡ advancedThere (now (c .entry)) slots ⌝ }
 {
     let moved = c.advance(slots);
     *c = moved.cursor;

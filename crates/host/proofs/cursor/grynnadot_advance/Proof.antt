@@ -36,7 +36,8 @@ use denote.Triple.Table.{entered, cited}
 use denote.Triple.Walked.{says, Stays, stay-dropped, gave-ref, walkOf, AllGo, goes-dropped, goes-gave-ref, Walks, ends-at, walked, walk-meets}
 use Rattle.magnetron.specs.declared.check.Verdict.{Verdict}
 use Rattle.util.specs.declared.delay_line.Cursor.{Cursor}
-use Rattle.util.specs.DelayLine.{advanced}
+use Rattle.numbers.specs.Outcome.{outcome}
+use Rattle.util.specs.DelayLine.{advancedThere}
 -- T: what is lent; N: what is returned
 use Rattle.util.proofs.delay_line.Cursor as T
 use Rattle.magnetron.proofs.check.Verdict as N
@@ -86,7 +87,7 @@ module _ {M : Type 1} (𝓤 : URA M) (H : Heap 𝓤) (A : Atoms 𝓤) (W : Given
 
   -- what the callee says of what it returns and of the last value
   abbrev Said : Verdict → Lasts → Type 0
-  Said r ws = (r ≡ advanced (cursor .now) slots .verdict) × (ws .0 ≡ advanced (cursor .now) slots .cursor)
+  Said r ws = outcome r (ws .0) ≡ advancedThere (cursor .now) slots
 
   exits : (v : Val) (r : Verdict) (ws : Lasts) → Said r ws → ent 𝓤 (⋆ 𝓤 H A ((‵ (flft (κs .0) (qs .0)) ⊛ ‵ ftrue) ∷ ‵ (lasts g.ended κs a ws) ∷ ‵ (N.the-row .own r (v ∷ [])) ∷ [])) (Post v)
   exits v r ws e =

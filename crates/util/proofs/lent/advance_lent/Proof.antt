@@ -39,6 +39,7 @@ use denote.Triple.Spec.{Meets, tripleOf}
 use denote.Triple.Table.{entered, cited}
 use denote.Triple.Walked.{says, Stays, stay-ref, stay-none, walkOf, AllGo, goes-none, goes-ref, Walks, ends-at, walked, walk-meets}
 use denote.Exit.{yes}
+use Rattle.numbers.specs.Outcome.{outcome}
 use Rattle.magnetron.specs.declared.check.Verdict.{Verdict}
 use Rattle.util.specs.declared.delay_line.Cursor.{Cursor}
 use Rattle.util.specs.declared.delay_line.Moved.{Moved}
@@ -98,7 +99,7 @@ module _ {M : Type 1} (𝓤 : URA M) (H : Heap 𝓤) (A : Atoms 𝓤) (W : Given
   exits r e is =
       qed W (‵ (fobs γ (T.the-row .coded .code (r .cursor))) ∷ ‵ (fbor κ (Body (mem T.the-row) b o γ)) ∷ ‵ (flft κ q) ∷ []) ∵
       suffices ! _ (ends-at 𝓤 H A f.ended stayed (f.clauses 𝓤 H A at-mem run) W (((κ, tt), (q, tt), tt, x, at), tt) (machN (r .verdict)) (r .verdict) (r .cursor, (tt, tt)) (tt, (tt, tt))) $
-      says ! (ap (λ (m : Moved). m .verdict) e, ap (λ (m : Moved). m .cursor) e) $ nothing ! $ move ! (3 ∷ 0 ∷ []) $ join ! $
+      says ! (ap (λ (m : Moved). outcome (m .verdict) (m .cursor)) e) $ nothing ! $ move ! (3 ∷ 0 ∷ []) $ join ! $
       frame ! $ feqI ! (List Val) (vptr b o ∷ []) (vptr b o ∷ []) refl $ fjoin3 ! $ nothing ! $ owned ! usize (Is usize) (uint-makes 𝓤 H A W w64) n _ (refl, fits) $ fjoin ! $ move ! (1 ∷ 0 ∷ []) $ fjoin ! $
       owned ! N.the-row (Is N.the-row) ((LL.makes N.the-type N′.the-plain) 𝓤 H A) (r .verdict) _ is $ move ! (1 ∷ 0 ∷ []) $ done !
 
