@@ -1,7 +1,7 @@
 -- THE BIQUADS ARE THE AUDIO EQ COOKBOOK'S.
 --     agrees          what the filters feed their formulas, the sine and the cosine of frequency * w turns, makes the Cookbook's coefficients of
 --                     every kind at f0 = frequency and w = 1/Fs: "w0 = 2*pi*f0/Fs"
---     no-other        BandPass is the published form of constant skirt gain, and not that of constant 0 dB peak gain
+--     no-other        BandPass is the published form of constant skirt gain, and where Q is not 1 and alpha not 0 not that of constant 0 dB peak gain
 --     step-agrees     one step is the difference equation
 --     run-agrees      so is each sample of a run of any length
 --     as-tuned        the contracts cite the same formulas, read in f64, at f0 and quality as the Rust's clamps hold them

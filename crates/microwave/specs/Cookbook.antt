@@ -67,7 +67,7 @@ module _ (A : Arithmetic) where
     a2 = 𝟏 ⊖ alpha sin Q;
   }
 
-  -- BPF "(constant 0 dB peak gain)", the second: none of the seven filters is it
+  -- BPF "(constant 0 dB peak gain)", the second. BandPass is not this one: the two are alike only where Q is 1 or alpha is 0
   unfoldable pub otherBandPass : Number → Number → Number → Coefficients Number
   otherBandPass sin cos Q = record {
     b0 = alpha sin Q;
