@@ -1,4 +1,4 @@
-/* The engine as a static library: what `rt staticlib host` exports, for C on x86-64. Link with -lm: oscillators call fmod.
+/* The engine as a static library: what `rt staticlib host` exports, for C on x86-64. Of C it calls memcpy and memset alone.
  *
  * Records go by value and come back by value: what comes back is what to pass next time. A ring's cursor alone is changed where it stands.
  * Samples, zeros, rings, values and the order are lent, each as a pointer and a count of elements. A pointer is used during the call and
@@ -111,7 +111,7 @@ grynnadot_wrote grynnadot_read_2_write_1(grynnadot_pools pools, double *internal
 enum { GRYNNADOT_ABSENT, GRYNNADOT_NUMBER, GRYNNADOT_SLOT, GRYNNADOT_WINDOW_SECONDS };
 
 /* Nothing, the number, the value in that slot of the lent values, or the window's seconds, by its mark. Only out_level and an oscillator's
- * phase may be absent: they are then 1.0 and 0.0. */
+ * phase may be absent: they are then 1.0 and 0.0. The engine reads the number's eight bytes as they are: any NaN is NaN. */
 typedef struct {
     size_t mark;
     size_t slot;

@@ -3,12 +3,10 @@ pub mod Compare
 pub mod PlusZero
 pub mod Rounding
 pub mod MinusZero
-pub mod Scan
 pub mod Sign
 pub mod Range
 pub mod WholePart
 pub mod RoundUp
 pub mod Offset
-pub mod Horner
 pub mod Edges
 pub mod Determined

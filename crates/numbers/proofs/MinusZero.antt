@@ -13,7 +13,7 @@ use lib.Ieee.Back.{whole-unique}
 use lib.Ieee.Fits.{up-pos, down-pos, neg-fits}
 use Rattle.numbers.specs.Small.{absOf}
 use Rattle.numbers.specs.Zeros.{isPlusZero}
-use Rattle.numbers.specs.Scan.{isMinusZero}
+use Rattle.numbers.specs.Inside.{isMinusZero}
 use Rattle.numbers.proofs.Rounding.{signed, round-signed, unit-grid, zero-rounds}
 
 -- ---- a rounded number

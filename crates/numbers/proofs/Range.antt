@@ -3,19 +3,20 @@
 --     within                 from the tests `0.0 <= x` and `x <= y`, where y is n
 --     cast-low, cast-high    the cast of x up to 2 ^ 53 is in range
 --     part-le, cast-is       it gives the whole part, which is at most n
+--     BelowOne, below-one    x is -0.0, or m * 2 ^ e below 1; from the tests `0.0 <= x` and `x < 1.0`
 -- Assumes nothing.
 use mathlib.Core.Path.{_≡_, refl, sym, _∙_}
-use mathlib.Core.Bool.{true, false}
+use mathlib.Core.Bool.{true, false, _&&_, and-eq-true-iff}
 use Prim.Native.Nat.{ℕ, zero, suc, _+_, _*_, _/_, _^_, _≤_, _<_}
 use native.Mathlib.Nat.{zero-mul, one-mul, mul-le-mul-right, le-trans, le-of-mul-le-mul-right, div-mul-le-self, min-eq-left}
 use native.Mathlib.Omega.{arith}
-use borrow.Author.Tests.{leb-true, ne-eqb}
+use borrow.Author.Tests.{leb-true, ltb-true, ne-eqb}
 use lib.Dec.{T, lt→ltb}
 use lib.IntN.{ℤ, pos}
 use lib.Ieee.{Float, nan, inf, fin, ofBits, toUnsigned, eq, lt, le, up, down}
 use lib.Ieee.Fits.{down-pos}
 use lib.Ieee.Exact.{HasValue}
-use Rattle.numbers.specs.Constants.{zero64, limit64}
+use Rattle.numbers.specs.Constants.{zero64, one64, limit64}
 use Rattle.numbers.proofs.Compare.{falsehood, size-pos, whole-le}
 
 pub data Within (n : ℕ) : Float → Type 0 where
@@ -69,3 +70,22 @@ unfolding toUnsigned
 cast-is m e h =
     let l : m * up e / down e ≤ 2 ^ 53 = part-le (2 ^ 53) m e h in
     min-eq-left (omega arith)
+
+-- ---- below 1
+
+pub data BelowOne : Float → Type 0 where
+  minus-none : (e : ℤ) → BelowOne (fin true 0 e)
+  plus-part : (m : ℕ) (e : ℤ) → m * up e < down e → BelowOne (fin false m e)
+
+one-value : HasValue one64 false 1 1
+one-value = unfold ofBits in (refl, refl)
+
+under : {x : Float} → Within 1 x → lt x one64 ≡ true → BelowOne x
+unfolding lt ofBits
+under (minus-zero e) h = minus-none e
+under (plus m e _) h = plus-part m e (omega (arith, ltb-true (m * up e * 1) (1 * down e) h))
+
+pub below-one : (x : Float) → (le zero64 x && lt x one64) ≡ true → BelowOne x
+below-one x h =
+    let p = and-eq-true-iff (le zero64 x) (lt x one64) .0 h in
+    under (within 1 one64 one-value x (p .0) (unfold le in rw (p .1))) (p .1)

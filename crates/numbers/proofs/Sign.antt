@@ -13,7 +13,7 @@ use lib.Ieee.Fits.{neg-fits}
 use Rattle.numbers.specs.Constants.{zero64, one64}
 use Rattle.numbers.specs.Small.{negative, absOf}
 use Rattle.numbers.specs.Zeros.{isPlusZero}
-use Rattle.numbers.specs.Scan.{isMinusZero}
+use Rattle.numbers.specs.Inside.{isMinusZero}
 use Rattle.numbers.proofs.Compare.{falsehood, zero-eq, zero-lt, zero-le}
 use Rattle.numbers.proofs.Rounding.{round-own}
 use Rattle.numbers.proofs.MinusZero.{minus-digits}

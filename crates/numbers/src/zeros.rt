@@ -4,7 +4,7 @@ ghost use mathlib.Core.Bool.{_&&_};
 ghost use Prim.Native.Nat.{_+_, _≤_};
 ghost use lib.ListN.{length, drop};
 ghost use Rattle.numbers.specs.Zeros.{isPlusZero, allPlusZero};
-ghost use Rattle.numbers.specs.Scan.{isMinusZero, allMinusZero};
+ghost use Rattle.numbers.specs.Inside.{isMinusZero, allMinusZero};
 
 // -0.0 just where the difference was -0.0 and x is +0.0.
 fn less(difference: f64, x: f64) -> f64

@@ -6,7 +6,7 @@ use native.Mathlib.Omega.{arith}
 use denote.Ref.{now}
 use lib.ListN.{length, drop}
 use Rattle.numbers.specs.Turns.{hornerOf}
-use Rattle.numbers.proofs.Horner.{horner-empty, horner-last, horner-step}
+use Rattle.numbers.proofs.turns.Sums.{horner-empty, horner-last, horner-step}
 use Rattle.numbers.proofs.turns.horner.Statement.{statement}
 use Rattle.numbers.proofs.turns.horner.Tie as tie
 

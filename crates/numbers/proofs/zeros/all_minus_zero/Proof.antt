@@ -6,8 +6,8 @@ use native.Mathlib.Omega.{arith}
 use borrow.Author.Needs.{needs}
 use borrow.Author.Tests.{not-true, not-false}
 use lib.ListN.{length, drop, drop-of-length-le}
-use Rattle.numbers.specs.Scan.{allMinusZero}
-use Rattle.numbers.proofs.Scan.{difference-next}
+use Rattle.numbers.specs.Inside.{allMinusZero}
+use Rattle.numbers.proofs.zeros.Scan.{difference-next}
 use Rattle.numbers.proofs.zeros.all_minus_zero.Statement.{statement}
 use Rattle.numbers.proofs.zeros.all_minus_zero.Tie as tie
 

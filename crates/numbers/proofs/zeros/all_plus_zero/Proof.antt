@@ -8,7 +8,7 @@ use borrow.Author.Needs.{needs}
 use lib.Ieee.{neg, ofBits}
 use lib.ListN.{length, drop, drop-of-length-le}
 use Rattle.numbers.specs.Zeros.{isPlusZero, allPlusZero}
-use Rattle.numbers.specs.Scan.{allMinusZero}
+use Rattle.numbers.specs.Inside.{allMinusZero}
 use Rattle.numbers.proofs.zeros.all_plus_zero.Statement.{statement}
 use Rattle.numbers.proofs.zeros.all_plus_zero.Tie as tie
 

@@ -9,8 +9,8 @@ use borrow.Author.Needs.{needs}
 use denote.Ref.{now}
 use lib.ListN.{length, drop}
 use Rattle.numbers.specs.Zeros.{allPlusZero}
-use Rattle.numbers.specs.Scan.{allMinusZero}
-use Rattle.numbers.proofs.Scan.{less-step}
+use Rattle.numbers.specs.Inside.{allMinusZero}
+use Rattle.numbers.proofs.zeros.Scan.{less-step}
 use Rattle.numbers.proofs.zeros.less_samples.Statement.{statement}
 use Rattle.numbers.proofs.zeros.less_samples.Tie as tie
 

@@ -9,7 +9,7 @@ use lib.ListN.{length, getD, set, drop}
 use lib.Seq.{drop-cons}
 use lib.Ieee.{Float, nan}
 use Rattle.numbers.specs.Zeros.{isPlusZero, allPlusZero}
-use Rattle.numbers.specs.Scan.{isMinusZero, allMinusZero}
+use Rattle.numbers.specs.Inside.{isMinusZero, allMinusZero}
 
 -- ---- the samples from i on, and the differences from k on: the first, and the rest
 

@@ -1,4 +1,5 @@
--- What the scan of the lent zeros keeps: running differences, each of which stays -0.0 as long as +0.0 is taken off. Assumes nothing.
+-- The words of private functions, which no public contract says: what the scan of the lent zeros keeps are running differences, each of which
+-- stays -0.0 as long as +0.0 is taken off. Assumes nothing.
 use mathlib.Core.Bool.{Bool, true, _&&_}
 use mathlib.Core.List.{List, [], _∷_}
 use lib.Ieee.{Float, neg}

@@ -1,0 +1,3 @@
+-- Laws that the proofs of `numbers::small` alone cite.
+mod Fraction
+mod Remainder

@@ -1,0 +1,2 @@
+-- Laws that the proofs of `numbers::turns` alone cite.
+mod Sums
