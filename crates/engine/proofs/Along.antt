@@ -1,7 +1,7 @@
 -- The loop along the order, once the checks have passed. What the checks established of the order holds of the rest of it after each step
 -- of the definition, so the loop repeats no check.
 --     stage-there, ring-lies, ready     a stage whose turn it is: it is there, its ring lies in the rings, and it is ready
---     passed-step     after its step the rest of the order has passed
+--     passed-staged     after its step the rest of the order has passed
 --     stepped         what its turn leaves is a step of the definition
 --     Along           the invariant: the rest has passed, and leads where the whole order does
 -- Assumes nothing.
@@ -19,26 +19,29 @@ use borrow.Author.Tests.{ltb-true}
 use borrow.Rule.Slice.PartMut.{putMid}
 use Rattle.order.specs.Order.{runs}
 use Rattle.order.specs.Checks.{passed, verdict}
-use Rattle.magnetron.specs.Activity.{greaterOf}
+use Rattle.answers.specs.Activity.{greaterOf}
+use Rattle.answers.specs.declared.activity.StageActivity.{StageActivity}
+use Rattle.answers.specs.declared.activity.StageActivity.the-variants.{Exhausted}
+use Rattle.answers.proofs.Tests.{and-left, and-right}
+use Rattle.answers.proofs.Verdicts.{first-passed}
 use Rattle.magnetron.specs.Buffers.{pick, Shape, Banks, write, withLineAt, withLine, laid, marksOf, cleared, activityOf}
 use Rattle.magnetron.specs.Pools.{banksOf}
-use Rattle.magnetron.specs.Room.{Held}
+use Rattle.magnetron.specs.Inside.Room.{Held}
 use Rattle.magnetron.specs.declared.buffer.Marks.{Marks}
 use Rattle.magnetron.specs.declared.buffer.BufferIndex.{BufferIndex}
 use Rattle.magnetron.specs.declared.buffer.BufferIndex.the-variants.{External, Internal}
 use Rattle.magnetron.specs.declared.pool.Pools.{Pools}
-use Rattle.magnetron.specs.declared.stage.StageActivity.{StageActivity}
-use Rattle.magnetron.specs.declared.stage.StageActivity.the-variants.{Exhausted}
-use Rattle.magnetron.proofs.Tests.{and-left, and-right}
-use Rattle.magnetron.proofs.Verdicts.{first-passed}
-use Rattle.engine.specs.declared.state.State.{State}
-use Rattle.engine.specs.Stage.{Own, own, ringFine}
-use Rattle.engine.specs.Run.{Plan, World, noState, stageAt, lenIn, ringAt, worldOf, ownOf, playedAt, putPlayed, step, louder, fineIn, fault, turned, faultOf}
-use Rattle.engine.specs.Code.{Entered, Passed, Ready, Turned, Bounded}
+use Rattle.stages.specs.declared.state.State.{State}
+use Rattle.stages.specs.declared.patch.Starts.{Starts}
+use Rattle.stages.specs.Stage.{Own, own, ringFine}
+use Rattle.stages.specs.Rings.{noState, lenIn, ringAt, fineIn}
+use Rattle.stages.specs.Inside.{Bounded, startsOf}
+use Rattle.stages.proofs.EndToEnd.{fine-at, sum-step, starts-at, part-put}
+use Rattle.stages.proofs.Positions.{position-stays}
+use Rattle.engine.specs.Run.{Plan, World, stageAt, ownOf, playedAt, putPlayed, staged, louder, fault, turned, faultOf}
+use Rattle.engine.specs.Inside.{worldWith, Admitted, Passed, Ready, Turned}
 use Rattle.engine.proofs.Lists.{next-of, rest, last}
-use Rattle.engine.proofs.EndToEnd.{fine-at, sum-step, part-put}
 use Rattle.engine.proofs.Faults.{passed-named}
-use Rattle.engine.proofs.Positions.{position-stays}
 
 -- ---- what a write leaves as it was
 
@@ -72,20 +75,23 @@ held-sided : (p : Pools) (o : BufferIndex) (internal external : List Float) (n :
 held-sided p (External k) internal external n h = h
 held-sided p (Internal k) internal external n h = h
 
-pub bounded : {P : Plan} {ks : List ℕ} {w : World} → Entered P ks w → Bounded (P .patch)
+pub bounded : {P : Plan} {ks : List ℕ} {w : World} → Admitted P ks w → Bounded (P .patch)
 bounded {P} {ks} {w} ok = record { few = ok .few; each = λ k h. fine-at (P .patch) (w .states) k (ok .fine k h) }
 
 -- ---- a stage whose turn it is
 
 module _ {P : Plan} {k : ℕ} {ks : List ℕ} {w : World} (ok : Passed P (k ∷ ks) w) where
   pub stage-there : k < P .patch .count
-  stage-there = ltb-true _ _ (and-left (ltb k (P .patch .count)) _ (ok .entered .below))
+  stage-there = ltb-true _ _ (and-left (ltb k (P .patch .count)) _ (ok .admitted .below))
+
+  pub started : {starts : Starts} → starts ≡ startsOf (P .patch) → getD (starts .at) k 0 ≡ ringAt (P .patch) k
+  started e = rw e (starts-at (P .patch) k stage-there)
 
   pub ring-lies : ringAt (P .patch) k + lenIn (P .patch) k ≤ length (w .rings)
-  ring-lies = le-trans (sum-step (lenIn (P .patch)) k (P .patch .count) stage-there) (ok .entered .roomy)
+  ring-lies = le-trans (sum-step (lenIn (P .patch)) k (P .patch .count) stage-there) (ok .admitted .roomy)
 
   pub ring-small : lenIn (P .patch) k ≤ 32768
-  ring-small = fine-at (P .patch) (w .states) k (ok .entered .fine k stage-there)
+  ring-small = fine-at (P .patch) (w .states) k (ok .admitted .fine k stage-there)
 
   ring-long : length (ownOf P k w .ring) ≡ lenIn (P .patch) k
   unfolding ownOf
@@ -93,7 +99,7 @@ module _ {P : Plan} {k : ℕ} {ks : List ℕ} {w : World} (ok : Passed P (k ∷ 
 
   fine-here : ringFine (stageAt P k .kind) (ownOf P k w .state) ≡ true
   unfolding ownOf
-  fine-here = ok .entered .fine k stage-there
+  fine-here = ok .admitted .fine k stage-there
 
   turns : (passed (fault P k (marksOf (w .banks))) ≡ true) × (passed (verdict (fault P) (turned P) ks (turned P k (marksOf (w .banks)))) ≡ true)
   turns = first-passed (fault P k (marksOf (w .banks))) (verdict (fault P) (turned P) ks (turned P k (marksOf (w .banks)))) (ok .sound)
@@ -102,29 +108,29 @@ module _ {P : Plan} {k : ℕ} {ks : List ℕ} {w : World} (ok : Passed P (k ∷ 
       (pick (stageAt P k .output) (w .banks .internal .samples) (w .banks .external .samples)) (pick (stageAt P k .output) (w .banks .external .samples) (w .banks .internal .samples))
   unfolding fault
   ready = record {
-    held = held-sided (P .pools) (stageAt P k .output) _ _ _ (ok .entered .pools);
+    held = held-sided (P .pools) (stageAt P k .output) _ _ _ (ok .admitted .pools);
     sound = sym (passed-named k (faultOf (P .pools) (P .window) (P .values) (stageAt P k) (marksOf (w .banks)))) ∙ turns .0;
     fine = fine-here;
     long = ring-long;
   }
 
-  fine-after : (i : ℕ) → i < P .patch .count → fineIn (P .patch) (step P k w .states) i ≡ true
-  unfolding step putPlayed
+  fine-after : (i : ℕ) → i < P .patch .count → fineIn (P .patch) (staged P k w .states) i ≡ true
+  unfolding staged putPlayed
   fine-after i h =
       set-at-or (λ (j : ℕ) (s : State). ringFine (stageAt P j .kind) s ≡ true) (w .states) k i (playedAt P k w .kept .state) noState
-      (λ q. rw q (position-stays (stageAt P k .kind) _ (P .window) (ownOf P k w) _ _ fine-here ring-long)) (ok .entered .fine i h)
+      (λ q. rw q (position-stays (stageAt P k .kind) _ (P .window) (ownOf P k w) _ _ fine-here ring-long)) (ok .admitted .fine i h)
 
   -- what the checks have established goes on to hold
-  pub passed-step : Passed P ks (step P k w)
-  unfolding step putPlayed turned
-  passed-step = record {
-    entered = record {
-      pools = rw (write-internal, write-external) (ok .entered .pools);
-      few = ok .entered .few;
-      short = omega (arith, ok .entered .short);
-      below = and-right (ltb k (P .patch .count)) _ (ok .entered .below);
+  pub passed-staged : Passed P ks (staged P k w)
+  unfolding staged putPlayed turned
+  passed-staged = record {
+    admitted = record {
+      pools = rw (write-internal, write-external) (ok .admitted .pools);
+      few = ok .admitted .few;
+      short = omega (arith, ok .admitted .short);
+      below = and-right (ltb k (P .patch .count)) _ (ok .admitted .below);
       fine = fine-after;
-      roomy = rw length-sets (ok .entered .roomy);
+      roomy = rw length-sets (ok .admitted .roomy);
     };
     sound = rw write-marks (turns .1);
   }
@@ -151,8 +157,8 @@ module _ {P : Plan} {k : ℕ} {ks : List ℕ} {w : World} (ok : Passed P (k ∷ 
     -- what the turn leaves is a step of the definition
     pub stepped : {s : State} {m : Marks} {internal external : List Float} (ring : List Float) → length ring ≡ length (part .ring) → m ≡ cleared (stageAt P k .output) (marksOf (w .banks))
         → Turned (P .pools) (P .window) (P .values) (stageAt P k) part (w .banks) (own s ring) (banksOf internal external (cleared (stageAt P k .output) (marksOf (w .banks))))
-        → worldOf m (set (w .states) k s) internal external (putMid at (at + len - at) (w .rings) ring) ≡ step P k w
-    unfolding step putPlayed
+        → worldWith m (set (w .states) k s) internal external (putMid at (at + len - at) (w .rings) ring) ≡ staged P k w
+    unfolding staged putPlayed
     stepped {s} {m} {internal} {external} ring l em t =
         let long : length ring ≡ at + len - at = l ∙ length-take-le (at + len - at) (drop at (w .rings)) (omega (arith, part-lies, length-drop at (w .rings))) in
         let u : Turned (P .pools) (P .window) (P .values) (stageAt P k) (ownOf P k w) (w .banks) (own s ring) _ = rw part-own at t in
@@ -167,7 +173,7 @@ module _ {P : Plan} {k : ℕ} {ks : List ℕ} {w : World} (ok : Passed P (k ∷ 
 
 pub record Along (P : Plan) (ks : List ℕ) (w₀ w : World) (a : StageActivity) (j : ℕ) : Type 0 where
   pub still : Passed P (drop j ks) w
-  pub world : runs (step P) (drop j ks) w ≡ runs (step P) ks w₀
+  pub world : runs (staged P) (drop j ks) w ≡ runs (staged P) ks w₀
   pub loud : runs (louder P) (drop j ks) a ≡ runs (louder P) ks Exhausted
   pub internal : length (w .banks .internal .samples) ≡ length (w₀ .banks .internal .samples)
   pub external : length (w .banks .external .samples) ≡ length (w₀ .banks .external .samples)
@@ -182,20 +188,20 @@ module _ {P : Plan} {ks : List ℕ} {w₀ : World} where
     along-here h = subst (λ (l : List ℕ). Passed P l w) (next-of ks j h) (v .still)
 
     pub stage-below : j < length ks → getD ks j 0 < 32
-    stage-below h = omega (arith, stage-there (along-here h), v .still .entered .few)
+    stage-below h = omega (arith, stage-there (along-here h), v .still .admitted .few)
 
-    pub along-more : (w' : World) (a' : StageActivity) → j < length ks → w' ≡ step P (getD ks j 0) w → a' ≡ greaterOf a (activityOf (stageAt P (getD ks j 0) .output)) → Along P ks w₀ w' a' (j + 1)
-    unfolding step putPlayed louder
+    pub along-more : (w' : World) (a' : StageActivity) → j < length ks → w' ≡ staged P (getD ks j 0) w → a' ≡ greaterOf a (activityOf (stageAt P (getD ks j 0) .output)) → Along P ks w₀ w' a' (j + 1)
+    unfolding staged putPlayed louder
     along-more w' a' h e f =
         rw (e, f)
         (record {
-          still = passed-step (along-here h);
-          world = rest (λ (l : List ℕ). runs (step P) l w) ks j (v .world) h;
+          still = passed-staged (along-here h);
+          world = rest (λ (l : List ℕ). runs (staged P) l w) ks j (v .world) h;
           loud = rest (λ (l : List ℕ). runs (louder P) l a) ks j (v .loud) h;
           internal = rw write-internal (v .internal);
           external = rw write-external (v .external);
           rings = rw length-sets (v .rings);
         })
 
-    pub along-end : length ks ≤ j → (w ≡ runs (step P) ks w₀) × (a ≡ runs (louder P) ks Exhausted)
-    along-end h = (last (λ (l : List ℕ). runs (step P) l w) ks j (v .world) h, last (λ (l : List ℕ). runs (louder P) l a) ks j (v .loud) h)
+    pub along-end : length ks ≤ j → (w ≡ runs (staged P) ks w₀) × (a ≡ runs (louder P) ks Exhausted)
+    along-end h = (last (λ (l : List ℕ). runs (staged P) l w) ks j (v .world) h, last (λ (l : List ℕ). runs (louder P) l a) ks j (v .loud) h)

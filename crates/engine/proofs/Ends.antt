@@ -9,10 +9,10 @@ use Prim.Native.Nat.{ℕ}
 use lib.Ieee.{Float}
 use Rattle.order.specs.Order.{runs}
 use Rattle.order.specs.Checks.{passed}
-use Rattle.magnetron.specs.declared.check.Verdict.{Verdict}
-use Rattle.magnetron.specs.declared.stage.StageActivity.the-variants.{Exhausted}
-use Rattle.engine.specs.Run.{Plan, World, refused, done, step, louder, judged, ended, rendered, leftBy}
-use Rattle.engine.specs.Code.{returned}
+use Rattle.answers.specs.declared.verdict.Verdict.{Verdict}
+use Rattle.answers.specs.declared.activity.StageActivity.the-variants.{Exhausted}
+use Rattle.engine.specs.Run.{Plan, World, refused, done, staged, louder, judged, ended, rendered, afterBy}
+use Rattle.engine.specs.Inside.{returned}
 
 is-some : (o : Option Verdict) (v : Verdict) → v ≡ returned o → v .number ≢ 0 → o ≡ some v
 is-some none v e h = absurd (h (ap (λ (u : Verdict). u .number) e))
@@ -23,10 +23,10 @@ is-none none e = refl
 is-none (some r) e = absurd (false≢true e)
 
 module _ (P : Plan) (zeros : List Float) (ks : List ℕ) (w : World) where
-  pub left-refused : (v : Verdict) → v ≡ returned (judged P zeros ks w) → v .number ≢ 0 → leftBy P w (refused v) ≡ leftBy P w (rendered P zeros ks w)
+  pub after-refused : (v : Verdict) → v ≡ returned (judged P zeros ks w) → v .number ≢ 0 → afterBy P w (refused v) ≡ afterBy P w (rendered P zeros ks w)
   unfolding rendered ended
-  left-refused v e h = sym (ap (λ (o : Option Verdict). leftBy P w (ended P ks w o)) (is-some (judged P zeros ks w) v e h))
+  after-refused v e h = sym (ap (λ (o : Option Verdict). afterBy P w (ended P ks w o)) (is-some (judged P zeros ks w) v e h))
 
-  pub left-done : passed (judged P zeros ks w) ≡ true → leftBy P w (done (runs (louder P) ks Exhausted) (runs (step P) ks w)) ≡ leftBy P w (rendered P zeros ks w)
+  pub after-done : passed (judged P zeros ks w) ≡ true → afterBy P w (done (runs (louder P) ks Exhausted) (runs (staged P) ks w)) ≡ afterBy P w (rendered P zeros ks w)
   unfolding rendered ended
-  left-done e = sym (ap (λ (o : Option Verdict). leftBy P w (ended P ks w o)) (is-none (judged P zeros ks w) e))
+  after-done e = sym (ap (λ (o : Option Verdict). afterBy P w (ended P ks w o)) (is-none (judged P zeros ks w) e))

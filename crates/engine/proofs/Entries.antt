@@ -15,17 +15,19 @@ use lib.ListN.{length}
 use lib.Ieee.{Float}
 use borrow.Author.Tests.{lt-leb, le-leb, leb-true}
 use Rattle.order.specs.Checks.{unless, first, passed}
-use Rattle.magnetron.specs.Checks.{windowOk, verdictOf}
+use Rattle.answers.specs.Verdict.{verdictOf}
+use Rattle.answers.specs.declared.verdict.Verdict.{Verdict}
+use Rattle.answers.proofs.Tests.{and-left, and-right}
+use Rattle.answers.proofs.Verdicts.{unless-passed, first-passed, Numbered, numbered-unless, numbered-first, stopped, went-on}
+use Rattle.magnetron.specs.Checks.{windowOk}
 use Rattle.magnetron.specs.Single.{Lent, lent, lentOk, prepareFault}
-use Rattle.magnetron.specs.declared.check.Verdict.{Verdict}
-use Rattle.magnetron.proofs.Tests.{and-left, and-right}
-use Rattle.magnetron.proofs.Verdicts.{unless-passed, first-passed, Numbered, numbered-unless, numbered-first, stopped, went-on}
 use Rattle.magnetron.proofs.Faults.{prepare-numbered}
 use Rattle.magnetron.proofs.Told.{held}
-use Rattle.engine.specs.Run.{Plan, World, orderly, allTo, fineIn, ringsOk, entry}
-use Rattle.engine.specs.Code.{Entered}
+use Rattle.stages.specs.Rings.{allTo, fineIn, ringsOk}
+use Rattle.stages.proofs.EndToEnd.{all-at}
+use Rattle.engine.specs.Run.{Plan, World, orderly, entry}
+use Rattle.engine.specs.Inside.{Admitted}
 use Rattle.engine.proofs.Lists.{orderly-told}
-use Rattle.engine.proofs.EndToEnd.{all-at}
 
 first-assoc : (b : Bool) (r : ℕ) (x y : Option ℕ) → first (unless b r) (first x y) ≡ first (first (unless b r) x) y
 first-assoc true r x y = refl
@@ -81,7 +83,7 @@ module _ (P : Plan) (zeros : List Float) (ks : List ℕ) (w : World) where
       (numbered-first _ _ (numbered-unless short 2 (λ z. omega arith))
       (numbered-first _ _ (numbered-unless listed 3 (λ z. omega arith)) (numbered-unless ringed 4 (λ z. omega arith))))
 
-  pub entry-told : passed (entry P zeros ks w) ≡ true → Entered P ks w
+  pub entry-told : passed (entry P zeros ks w) ≡ true → Admitted P ks w
   unfolding entry ringsOk
   entry-told e =
       let a = first-passed (unless sized 1) (first (unless short 2) later) e in

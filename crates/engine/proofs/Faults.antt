@@ -14,18 +14,19 @@ use native.Mathlib.Omega.{arith}
 use lib.ListN.{length, getD, drop}
 use lib.Ieee.{Float}
 use Rattle.order.specs.Checks.{unless, first, passed, verdict}
+use Rattle.answers.specs.Verdict.{verdictOf}
+use Rattle.answers.specs.declared.verdict.Verdict.{Verdict}
+use Rattle.answers.proofs.Verdicts.{unless-passed, first-passed, Numbered, numbered-unless, numbered-first, accepted}
 use Rattle.magnetron.specs.Buffers.{cleared}
-use Rattle.magnetron.specs.Checks.{allThere, noClash, verdictOf}
+use Rattle.magnetron.specs.Checks.{allThere, noClash}
 use Rattle.magnetron.specs.declared.buffer.Marks.{Marks}
-use Rattle.magnetron.specs.declared.check.Verdict.{Verdict}
 use Rattle.magnetron.specs.declared.pool.Pools.{Pools}
-use Rattle.magnetron.proofs.Verdicts.{unless-passed, first-passed, Numbered, numbered-unless, numbered-first, accepted}
 use Rattle.microwave.specs.Parameter.{allFound}
-use Rattle.engine.specs.declared.stage.Stage.{Stage}
-use Rattle.engine.specs.declared.machine.RenderWindow.{RenderWindow}
-use Rattle.engine.specs.Stage.{inputsOf, asksOf}
-use Rattle.engine.specs.Run.{Plan, stageAt, levelAsk, faultOf, named, fault, turned}
-use Rattle.engine.specs.Code.{returned}
+use Rattle.stages.specs.declared.stage.Stage.{Stage}
+use Rattle.stages.specs.declared.window.RenderWindow.{RenderWindow}
+use Rattle.stages.specs.Stage.{inputsOf, asksOf, levelAsk}
+use Rattle.engine.specs.Run.{Plan, stageAt, faultOf, named, fault, turned}
+use Rattle.engine.specs.Inside.{returned}
 use Rattle.engine.proofs.Lists.{rest, last}
 
 module _ (b : Bool) (r : ℕ) (e : r ≡ cond b 0 6) where

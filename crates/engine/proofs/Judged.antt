@@ -11,13 +11,13 @@ use mathlib.Core.Option.{Option, none, some}
 use Prim.Native.Nat.{ℕ}
 use lib.Ieee.{Float}
 use Rattle.order.specs.Checks.{first, passed, verdict}
+use Rattle.answers.specs.Verdict.{verdictOf}
+use Rattle.answers.specs.declared.verdict.Verdict.{Verdict}
+use Rattle.answers.proofs.Verdicts.{first-passed, Numbered, accepted}
 use Rattle.magnetron.specs.Buffers.{marksOf}
-use Rattle.magnetron.specs.Checks.{verdictOf}
 use Rattle.magnetron.specs.declared.buffer.Marks.{Marks}
-use Rattle.magnetron.specs.declared.check.Verdict.{Verdict}
-use Rattle.magnetron.proofs.Verdicts.{first-passed, Numbered, accepted}
 use Rattle.engine.specs.Run.{Plan, World, stageAt, named, entry, fault, turned, judged}
-use Rattle.engine.specs.Code.{returned, Passed}
+use Rattle.engine.specs.Inside.{returned, Passed}
 use Rattle.engine.proofs.Faults.{named-go, fault-numbered, passed-named}
 use Rattle.engine.proofs.Entries.{entry-numbered, entry-told}
 
@@ -69,4 +69,4 @@ module _ (P : Plan) (zeros : List Float) (ks : List ℕ) (w : World) where
   unfolding judged
   passed-all e =
       let r = first-passed (named 32 (entry P zeros ks w)) _ e in
-      record { entered = entry-told P zeros ks w (sym (passed-named 32 (entry P zeros ks w)) ∙ r .0); sound = r .1 }
+      record { admitted = entry-told P zeros ks w (sym (passed-named 32 (entry P zeros ks w)) ∙ r .0); sound = r .1 }

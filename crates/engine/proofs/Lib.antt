@@ -1,13 +1,9 @@
--- What several proofs of `engine` cite, by what a run does: its checks (Lists to Judged), a stage's turn (Lens to Positions), the order (Along), its answer (Ends).
+-- What several proofs of `engine` cite, by what a run does: its checks (Lists to Judged), the order (Along), its answer (Ends).
 -- `Determined` says that each public contract determines its outcome.
 pub mod Lists
-pub mod EndToEnd
 pub mod Faults
 pub mod Entries
 pub mod Judged
-pub mod Lens
-pub mod Turns
-pub mod Positions
 pub mod Along
 pub mod Ends
 pub mod Determined

@@ -11,7 +11,7 @@ use lib.Dec.{leb, ltb}
 use lib.ListN.{length, getD, drop}
 use lib.Seq.{drop-cons}
 use borrow.Author.Tests.{le-leb, leb-true, ltb-true}
-use Rattle.magnetron.proofs.Tests.{and-left, and-right}
+use Rattle.answers.proofs.Tests.{and-left, and-right}
 use Rattle.engine.specs.Run.{allBelow, repeats, orderly}
 
 pub next-of : (l : List ℕ) (j : ℕ) → j < length l → drop j l ≡ getD l j 0 ∷ drop (j + 1) l

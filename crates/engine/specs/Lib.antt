@@ -1,4 +1,3 @@
--- Demand 2's definition, in `Run`, over what each kind of stage is, in `Stage`. `Code` has what private functions promise, in the definition's words.
-pub mod Stage
+-- The definition of a run: `Run` is what a reader must believe. `Inside` has the words of private functions.
 pub mod Run
-pub mod Code
+pub mod Inside

@@ -1,96 +1,100 @@
 -- A RUN, as document 01 has it: demand 2's definition. What `run` answers and leaves is `runOf`, for any input: all checks, then the stages along the order.
--- What each kind of stage is, `Stage.antt` says. What it is to read and to write a buffer, the crate `magnetron` says.
+-- What each kind of stage is, the crate `stages` says. What it is to read and to write a buffer, the crate `magnetron` says.
 -- Definitions only. Assumes nothing.
 --
 -- 01's sentences, and where they are said:
---     "Rings lie end to end in stage-number order in one lent slice."                       ringAt, ownOf
+--     "Rings lie end to end in stage-number order in one lent slice."                       ringAt, of stages; ownOf
 --     1 to 4                                                                                entry
 --     5, 6, 7, "for each stage along the order"                                             faultOf, fault
 --     "For 7, a buffer is not stale if it wasn't on entry or an earlier stage of this order writes it."    turned
 --     "All of it precedes the first sample."                                                judged, rendered
---     "A refusal returns its number, the stage (32 for 1 to 4) and Exhausted; every record and lent slice is unchanged."    judged, leftBy
+--     "A refusal returns its number, the stage (32 for 1 to 4) and Exhausted; every record and lent slice is unchanged."    judged, afterBy
 --     "Reading gives the first n samples of a buffer, or n zeros where it is stale"         heard, of magnetron; played
 --     "Writing stores on a stale buffer .., and adds .. on any other; then the mark is cleared"    write, of magnetron; putPlayed
---     "Each value is first multiplied by out_level, 1.0 if absent."                         levelAsk; levelled, of magnetron; along
+--     "Each value is first multiplied by out_level, 1.0 if absent."                         levelAsk, of stages; levelled, of magnetron; along
 --     "Activity is that of the output's kind; a run's is the greatest, Exhausted if empty." louder, ended
 use mathlib.Core.Bool.{Bool, true, false, not, _&&_, _||_}
 use mathlib.Core.List.{List, [], _∷_, _++_, map}
 use mathlib.Core.Option.{Option, none, some}
-use Prim.Native.Nat.{ℕ, zero, suc, _+_}
+use Prim.Native.Nat.{ℕ, _+_}
 use lib.Dec.{eqb, leb, ltb}
 use lib.ListN.{length, getD, set, take, drop}
 use lib.Seq.{sets}
-use lib.IntN.{pos}
-use lib.Ieee.{Float, nan, binary64, mul, ofInt}
-use Rattle.numbers.specs.Constants.{zero64, one64}
+use lib.Ieee.{Float, nan}
+use Rattle.numbers.specs.Constants.{zero64}
 use Rattle.order.specs.Order.{runs}
 use Rattle.order.specs.Checks.{unless, first, verdict}
-use Rattle.magnetron.specs.Window.{tab, stateAt, machine}
-use Rattle.magnetron.specs.Activity.{greaterOf}
+use Rattle.answers.specs.Activity.{greaterOf}
+use Rattle.answers.specs.Answer.{refusedAnswer, acceptedAnswer}
+use Rattle.answers.specs.declared.activity.StageActivity.{StageActivity}
+use Rattle.answers.specs.declared.activity.StageActivity.the-variants.{Exhausted}
+use Rattle.answers.specs.declared.verdict.Verdict.{Verdict}
+use Rattle.magnetron.specs.Signals.{tab, stateAt, machine}
 use Rattle.magnetron.specs.Buffers.{Shape, Banks, lineAt, heard, write, pairs, cleared, marksOf, activityOf}
 use Rattle.magnetron.specs.Pools.{shapeOf, banksOf, marksIn, remarked}
 use Rattle.magnetron.specs.Checks.{shapeOk, windowOk, allThere, noClash}
 use Rattle.magnetron.specs.Single.{levelled}
-use Rattle.magnetron.specs.declared.stage.StageActivity.{StageActivity}
-use Rattle.magnetron.specs.declared.stage.StageActivity.the-variants.{Exhausted}
 use Rattle.magnetron.specs.declared.buffer.Marks.{Marks}
 use Rattle.magnetron.specs.declared.buffer.BufferIndex.{BufferIndex}
-use Rattle.magnetron.specs.declared.buffer.BufferIndex.the-variants.{External}
-use Rattle.magnetron.specs.declared.check.Verdict.{Verdict}
 use Rattle.magnetron.specs.declared.pool.Pools.{Pools}
-use Rattle.microwave.specs.declared.parameter.Parameter.the-variants.{Fixed}
-use Rattle.microwave.specs.declared.parameter.Found.the-variants.{Number}
-use Rattle.microwave.specs.declared.parameter.Ask.{Ask}
 use Rattle.microwave.specs.Parameter.{allFound, numberFor, numbersOf}
-use Rattle.engine.specs.declared.stage.Kind.the-variants.{Pass}
-use Rattle.engine.specs.declared.stage.Stage.{Stage}
-use Rattle.engine.specs.declared.stage.Patch.{Patch}
-use Rattle.engine.specs.declared.state.State.{State}
-use Rattle.engine.specs.declared.state.States.{States}
-use Rattle.engine.specs.declared.machine.RenderWindow.{RenderWindow}
-use Rattle.engine.specs.declared.machine.Machine.{Machine}
+use Rattle.stages.specs.declared.stage.Stage.{Stage}
+use Rattle.stages.specs.declared.patch.Patch.{Patch}
+use Rattle.stages.specs.declared.state.State.{State}
+use Rattle.stages.specs.declared.state.States.{States}
+use Rattle.stages.specs.declared.window.RenderWindow.{RenderWindow}
+use Rattle.stages.specs.declared.machine.Machine.{Machine}
+use Rattle.stages.specs.Stage.{inputsOf, asksOf, levelAsk, Own, own, windowOf, settled, entered, Hears, hear, nextOf, outOf}
+use Rattle.stages.specs.Rings.{noState, stageIn, lenIn, ringAt, ringsOk}
 use Rattle.engine.specs.declared.run.Ran.{Ran}
-use Rattle.engine.specs.Stage.{inputsOf, asksOf, Own, own, ringLen, ringFine, settled, entered, Hears, nextOf, outOf}
 
 -- ---- what is given, and what changes
 
--- the patch with what the host lends beside the order: it does not change in a run
+-- all that a run is given beside its order: a patch, the records, how many samples and how many seconds each is wide, and the lent slices
+pub record Given : Type 0 where
+  pub patch : Patch
+  pub pools : Pools
+  pub states : States
+  pub samples : ℕ
+  pub width : Float
+  pub internal : List Float
+  pub external : List Float
+  pub zeros : List Float
+  pub rings : List Float
+  pub values : List Float
+
+abbrev pub given : Patch → Pools → States → ℕ → Float → List Float → List Float → List Float → List Float → List Float → Given
+given patch pools states n width internal external zeros rings values = record {
+  patch = patch;
+  pools = pools;
+  states = states;
+  samples = n;
+  width = width;
+  internal = internal;
+  external = external;
+  zeros = zeros;
+  rings = rings;
+  values = values;
+}
+
+-- of it, what does not change in a run
 pub record Plan : Type 0 where
   pub patch : Patch
   pub pools : Pools
   pub window : RenderWindow
   pub values : List Float
 
--- samples and marks of both pools, all state records, all rings end to end
+-- and what does: samples and marks of both pools, all state records, all rings end to end
 pub record World : Type 0 where
   pub banks : Banks
   pub states : List State
   pub rings : List Float
 
-abbrev pub planOf : Patch → Pools → RenderWindow → List Float → Plan
-planOf patch pools window values = record { patch = patch; pools = pools; window = window; values = values }
+abbrev pub planOf : Given → Plan
+planOf g = record { patch = g .patch; pools = g .pools; window = windowOf (g .samples) (g .width); values = g .values }
 
-abbrev pub worldOf : Marks → List State → List Float → List Float → List Float → World
-worldOf m states internal external rings = record { banks = banksOf internal external m; states = states; rings = rings }
-
--- "the window's seconds (sample width w times n)"
-abbrev pub windowOf : ℕ → Float → RenderWindow
-windowOf n width = record { «buffer_len» = n; «sample_width_secs» = width; «render_window_secs» = mul binary64 width (ofInt binary64 (pos n)) }
-
--- what stands past the end of a list of stages or states; no check lets a run get there
-abbrev pub noStage : Stage
-noStage = record { kind = Pass (External 0); output = External 0; «out_level» = Fixed nan }
-
-abbrev pub noState : State
-noState = record {
-  oscillator = record { phase = nan; saved = nan };
-  «one_pole» = record { low = nan; high = nan; «last_input» = nan };
-  biquad = record { y1 = nan; y2 = nan; x1 = nan; x2 = nan };
-  waveguide = record { «low_pass» = nan; position = 0 };
-}
-
-abbrev pub stageIn : Patch → ℕ → Stage
-stageIn patch k = getD (patch .stages) k noStage
+abbrev pub worldOf : Given → World
+worldOf g = record { banks = banksOf (g .internal) (g .external) (marksIn (g .pools)); states = g .states .stages; rings = g .rings }
 
 abbrev pub stageAt : Plan → ℕ → Stage
 stageAt P k = stageIn (P .patch) k
@@ -101,20 +105,6 @@ insAt P k = inputsOf (stageAt P k .kind)
 
 abbrev pub outsAt : Plan → ℕ → List BufferIndex
 outsAt P k = stageAt P k .output ∷ []
-
--- ---- "Rings lie end to end in stage-number order in one lent slice."
-
--- the sum of the first n
-unfoldable pub sumTo : ℕ → (ℕ → ℕ) → ℕ
-sumTo zero f = 0
-sumTo (suc n) f = sumTo n f + f n
-
-abbrev pub lenIn : Patch → ℕ → ℕ
-lenIn patch k = ringLen (stageIn patch k .kind)
-
--- where the ring of stage k begins
-abbrev pub ringAt : Patch → ℕ → ℕ
-ringAt patch k = sumTo k (lenIn patch)
 
 -- ---- the checks
 
@@ -134,18 +124,6 @@ repeats (k ∷ ks) = holds k ks || repeats ks
 unfoldable pub orderly : ℕ → List ℕ → Bool
 orderly count ks = leb (length ks) 32 && (allBelow count ks && not (repeats ks))
 
--- not 4, "a buffer_size is over its bound, the ring slice is shorter than all rings, or a stored position isn't below its ring length".
--- "4 looks at all waveguides of the patch, ordered or not."
-unfoldable pub allTo : ℕ → (ℕ → Bool) → Bool
-allTo zero f = true
-allTo (suc n) f = allTo n f && f n
-
-abbrev pub fineIn : Patch → List State → ℕ → Bool
-fineIn patch states k = ringFine (stageIn patch k .kind) (getD states k noState)
-
-unfoldable pub ringsOk : Patch → List State → ℕ → Bool
-ringsOk patch states room = allTo (patch .count) (fineIn patch states) && leb (ringAt patch (patch .count)) room
-
 -- "Checks 1 to 4 come first, in that order"
 --     1   "a count of buffers or stages, or a capacity, is over its bound, a pool slice has another length, or the lent zeros aren't exactly one +0.0 per sample of the internal capacity"
 --     2   "the window is longer than the internal capacity, or than the external one where there are external buffers"
@@ -155,10 +133,6 @@ entry P zeros ks w =
     (first (unless (windowOk (P .pools) (P .window .«buffer_len»)) 2)
     (first (unless (orderly (P .patch .count) ks) 3)
     (unless (ringsOk (P .patch) (w .states) (length (w .rings))) 4)))
-
--- "out_level, 1.0 if absent"
-abbrev pub levelAsk : Stage → Ask
-levelAsk stage = record { parameter = stage .«out_level»; absent = Number one64 }
 
 -- "Then 5, 6, 7 for each stage along the order.": of one stage, at the marks of its turn
 --     5   "a stage names a buffer that isn't there"
@@ -190,9 +164,9 @@ judged P zeros ks w = first (named 32 (entry P zeros ks w)) (verdict (fault P) (
 
 -- sample i of what is heard of each input
 abbrev pub hears : List (List Float) → ℕ → Hears
-hears [] i = record { first = zero64; second = zero64 }
-hears (a ∷ []) i = record { first = getD a i nan; second = zero64 }
-hears (a ∷ b ∷ rest) i = record { first = getD a i nan; second = getD b i nan }
+hears [] i = hear zero64 zero64
+hears (a ∷ []) i = hear (getD a i nan) zero64
+hears (a ∷ b ∷ rest) i = hear (getD a i nan) (getD b i nan)
 
 -- what a stage keeps, and the samples that it writes to each of its outputs
 pub record Played : Type 0 where
@@ -233,8 +207,8 @@ putPlayed P k a w = record {
 }
 
 -- ONE STAGE of a run
-unfoldable pub step : Plan → ℕ → World → World
-step P k w = putPlayed P k (playedAt P k w) w
+unfoldable pub staged : Plan → ℕ → World → World
+staged P k w = putPlayed P k (playedAt P k w) w
 
 -- an activity, or that of stage k where it is greater: "Activity is that of the output's kind"
 unfoldable pub louder : Plan → ℕ → StageActivity → StageActivity
@@ -248,7 +222,7 @@ pub data Rendered : Type 0 where
 
 -- refused as judged, or all stages in order; "a run's [activity] is the greatest, Exhausted if empty"
 unfoldable pub ended : Plan → List ℕ → World → Option Verdict → Rendered
-ended P ks w none = done (runs (louder P) ks Exhausted) (runs (step P) ks w)
+ended P ks w none = done (runs (louder P) ks Exhausted) (runs (staged P) ks w)
 ended P ks w (some r) = refused r
 
 -- "All of it precedes the first sample.": the verdict is of the world on entry
@@ -256,27 +230,24 @@ unfoldable pub rendered : Plan → List Float → List ℕ → World → Rendere
 rendered P zeros ks w = ended P ks w (judged P zeros ks w)
 
 -- what `run` answers, with what it leaves in the lent slices
-pub record Left : Type 0 where
+pub record After : Type 0 where
   pub ran : Ran
   pub internal : List Float
   pub external : List Float
   pub rings : List Float
 
-abbrev pub left : Ran → List Float → List Float → List Float → Left
-left r internal external rings = record { ran = r; internal = internal; external = external; rings = rings }
+abbrev pub after : Ran → List Float → List Float → List Float → After
+after r internal external rings = record { ran = r; internal = internal; external = external; rings = rings }
 
 -- "A refusal returns its number, the stage .. and Exhausted; every record and lent slice is unchanged."; "0: done; stage 32"
-unfoldable pub leftBy : Plan → World → Rendered → Left
-leftBy P w (refused v) =
-    left (record { answer = record { number = v .number; stage = v .stage; activity = Exhausted }; pools = P .pools; states = record { stages = w .states } })
+unfoldable pub afterBy : Plan → World → Rendered → After
+afterBy P w (refused v) =
+    after (record { answer = refusedAnswer v; pools = P .pools; states = record { stages = w .states } })
     (w .banks .internal .samples) (w .banks .external .samples) (w .rings)
-leftBy P w (done a u) =
-    left (record { answer = record { number = 0; stage = 32; activity = a }; pools = remarked (P .pools) (marksOf (u .banks)); states = record { stages = u .states } })
+afterBy P w (done a u) =
+    after (record { answer = acceptedAnswer a; pools = remarked (P .pools) (marksOf (u .banks)); states = record { stages = u .states } })
     (u .banks .internal .samples) (u .banks .external .samples) (u .rings)
 
 -- THE DEFINITION
-unfoldable pub runOf : Patch → List ℕ → Pools → States → ℕ → Float → List Float → List Float → List Float → List Float → List Float → Left
-runOf patch order pools states n width internal external zeros rings values =
-    let P : Plan = planOf patch pools (windowOf n width) values in
-    let w : World = worldOf (marksIn pools) (states .stages) internal external rings in
-    leftBy P w (rendered P zeros order w)
+unfoldable pub runOf : Given → List ℕ → After
+runOf g order = afterBy (planOf g) (worldOf g) (rendered (planOf g) (g .zeros) order (worldOf g))

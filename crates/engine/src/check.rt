@@ -1,30 +1,30 @@
 // The checks of a run, all of them before the first sample: 1 to 4 of what is lent, then 5, 6, 7 of each stage along the order.
 // Rests on magnetron's checks of pools and buffers, and on microwave's look-up of parameters.
-use crate::machine::RenderWindow;
-use crate::run::Given;
-use crate::stage::Patch;
-use crate::stage::Stage;
+use crate::records::Records;
+use answers::verdict::Verdict;
+use answers::verdict::done;
+use answers::verdict::refusal;
 use magnetron::buffer::Marks;
-use magnetron::check::Verdict;
 use magnetron::check::all_there;
 use magnetron::check::check_prepare;
-use magnetron::check::done;
 use magnetron::check::no_clash;
-use magnetron::check::refusal;
 use magnetron::pool::Pools;
 use microwave::parameter::Found;
 use microwave::parameter::lookup;
 use microwave::parameter::missing;
+use stages::patch::Patch;
+use stages::stage::Stage;
+use stages::window::RenderWindow;
 ghost use mathlib.Core.Path.{_≡_};
 ghost use mathlib.Core.Bool.{true};
 ghost use mathlib.Core.List.{[]};
 ghost use Prim.Native.Nat.{_≤_};
 ghost use lib.ListN.{drop};
 ghost use Rattle.order.specs.Checks.{verdict};
+ghost use Rattle.answers.specs.Verdict.{verdictOf};
 ghost use Rattle.magnetron.specs.Pools.{marksIn};
-ghost use Rattle.magnetron.specs.Checks.{verdictOf};
-ghost use Rattle.engine.specs.Run.{planOf, allBelow, holds, orderly, entry, faultOf, fault, turned, judged};
-ghost use Rattle.engine.specs.Code.{returned, planIn, worldIn};
+ghost use Rattle.engine.specs.Run.{allBelow, holds, orderly, entry, faultOf, fault, turned, judged};
+ghost use Rattle.engine.specs.Inside.{returned, planWith, planIn, worldIn};
 
 // Whether a number stands in the order from `from` on.
 fn stands_from(order: &[u8], from: usize, k: usize) -> bool
@@ -64,30 +64,29 @@ fn order_ok(order: &[u8], count: usize) -> bool
 
 // Checks 1 to 4, in that order.
 fn check_entry(
-    given: Given,
+    records: Records,
     order: &[u8],
     internal: &[f64],
     external: &[f64],
     zeros: &[f64],
     rings: &[f64],
 ) -> Verdict
-    ensures { λ r. ⌜ r ≡ verdictOf (entry (planIn given []) (now (zeros .entry)) (now (order .entry))
-        (worldIn given (now (internal .entry)) (now (external .entry)) (now (rings .entry)))) ⌝ }
+    ensures { λ r. ⌜ r ≡ verdictOf (entry (planIn records []) (now (zeros .entry)) (now (order .entry))
+        (worldIn records (now (internal .entry)) (now (external .entry)) (now (rings .entry)))) ⌝ }
 {
-    let patch = given.patch;
-    let pools = given.pools;
-    let states = given.states;
-    if 32 < patch.count {
+    // Taken out by itself: the records are then not copied whole for this call.
+    let pools = records.pools;
+    if 32 < records.patch.count {
         return refusal(1);
     }
-    let lent = check_prepare(pools, internal, external, zeros, given.window.buffer_len);
+    let lent = check_prepare(pools, internal, external, zeros, records.window.buffer_len);
     if lent.number != 0 {
         return lent;
     }
-    if !order_ok(order, patch.count) {
+    if !order_ok(order, records.patch.count) {
         return refusal(3);
     }
-    if !patch.rings_ok(states, rings.len()) {
+    if !records.patch.rings_ok(records.states, rings.len()) {
         return refusal(4);
     }
     done()
@@ -130,7 +129,7 @@ fn check_stages(
     values: &[f64],
 ) -> Verdict
     requires { ⌜ (patch .count ≤ 32) × (allBelow (patch .count) (now order) ≡ true) ⌝ }
-    ensures { λ r. ⌜ r ≡ returned (verdict (fault (planOf patch pools window (now (values .entry)))) (turned (planOf patch pools window (now (values .entry)))) (now (order .entry)) (marksIn pools)) ⌝ }
+    ensures { λ r. ⌜ r ≡ returned (verdict (fault (planWith patch pools window (now (values .entry)))) (turned (planWith patch pools window (now (values .entry)))) (now (order .entry)) (marksIn pools)) ⌝ }
 {
     let mut marks = pools.marks();
     let mut j = 0;
@@ -142,7 +141,7 @@ fn check_stages(
             return Verdict { number, stage: k };
         }
         let output = stage.output;
-        marks = marks.written(output);
+        marks = marks.clear(output);
         j += 1;
     }
     done()
@@ -150,7 +149,7 @@ fn check_stages(
 
 // All checks, in their order: 0 with stage 32, or the first refusal.
 pub(crate) fn judge(
-    given: Given,
+    records: Records,
     order: &[u8],
     internal: &[f64],
     external: &[f64],
@@ -158,15 +157,12 @@ pub(crate) fn judge(
     rings: &[f64],
     values: &[f64],
 ) -> Verdict
-    ensures { λ r. ⌜ r ≡ returned (judged (planIn given (now (values .entry))) (now (zeros .entry)) (now (order .entry))
-        (worldIn given (now (internal .entry)) (now (external .entry)) (now (rings .entry)))) ⌝ }
+    ensures { λ r. ⌜ r ≡ returned (judged (planIn records (now (values .entry))) (now (zeros .entry)) (now (order .entry))
+        (worldIn records (now (internal .entry)) (now (external .entry)) (now (rings .entry)))) ⌝ }
 {
-    let first = check_entry(given, order, internal, external, zeros, rings);
+    let first = check_entry(records, order, internal, external, zeros, rings);
     if first.number != 0 {
         return first;
     }
-    let patch = given.patch;
-    let pools = given.pools;
-    let window = given.window;
-    check_stages(patch, order, pools, window, values)
+    check_stages(records.patch, order, records.pools, records.window, values)
 }

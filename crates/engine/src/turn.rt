@@ -1,24 +1,23 @@
 // A stage's turn, once the checks have passed: it reads its inputs, plays its window and writes its output.
 // Rests on what the checks have established (`Ready`), and on the machines of machine.rt.
-use crate::machine::RenderWindow;
-use crate::machine::Sources;
-use crate::stage::Stage;
-use crate::state::State;
 use magnetron::buffer::BufferIndex;
 use magnetron::buffer::Marks;
-use magnetron::input::Input;
-use magnetron::input::Inputs;
-use magnetron::input::source;
+use magnetron::inputs::Inputs;
+use magnetron::output::Target;
 use magnetron::pool::Pools;
+use magnetron::source::Source;
+use magnetron::source::source_of;
 use microwave::parameter::Asks;
 use microwave::parameter::numbers_found;
-use microwave::window::Target;
+use stages::machine::Sources;
+use stages::stage::Stage;
+use stages::state::State;
+use stages::window::RenderWindow;
 ghost use mathlib.Core.Path.{_≡_};
-ghost use Rattle.magnetron.specs.Buffers.{pick, cleared};
+ghost use Rattle.magnetron.specs.Buffers.{pick, cleared, listOf};
 ghost use Rattle.magnetron.specs.Pools.{banksOf, sided};
-ghost use Rattle.magnetron.specs.Inputs.{listOf};
-ghost use Rattle.engine.specs.Stage.{own as owned};
-ghost use Rattle.engine.specs.Code.{Placed, sourcesOf, Ready, Turned};
+ghost use Rattle.stages.specs.Stage.{own as owned};
+ghost use Rattle.engine.specs.Inside.{Placed, sourcesOf, Ready, Turned};
 
 // Where the loop that writes `output` finds the inputs.
 fn sources(inputs: Inputs, pools: Pools, marks: Marks, output: BufferIndex) -> Sources
@@ -27,16 +26,16 @@ fn sources(inputs: Inputs, pools: Pools, marks: Marks, output: BufferIndex) -> S
 {
     match inputs {
         Inputs::Nothing => Sources {
-            first: Input::Zeros,
-            second: Input::Zeros,
+            first: Source::Zeros,
+            second: Source::Zeros,
         },
         Inputs::One(a) => Sources {
-            first: source(pools, marks, a, output),
-            second: Input::Zeros,
+            first: source_of(pools, marks, a, output),
+            second: Source::Zeros,
         },
         Inputs::Two(a, b) => Sources {
-            first: source(pools, marks, a, output),
-            second: source(pools, marks, b, output),
+            first: source_of(pools, marks, a, output),
+            second: source_of(pools, marks, b, output),
         },
     }
 }
@@ -59,24 +58,27 @@ impl Turn {
             (owned r (now (ring .exit))) (sided (self .stage .output) (now (own .exit)) (now (other .entry)) (cleared (self .stage .output) (self .marks))) ⌝ }
     {
         let stage = self.stage;
-        let state = self.state;
-        let marks = self.marks;
-        let pools = self.pools;
-        let window = self.window;
         let kind = stage.kind;
         let output = stage.output;
-        let seconds = window.render_window_secs;
+        let seconds = self.window.render_window_secs;
         let level = numbers_found(Asks::One(stage.level_ask()), values, seconds);
         let numbers = numbers_found(kind.asks(), values, seconds);
         let target = Target {
-            base: pools.base_of(output),
-            samples: window.buffer_len,
-            stale: marks.at(output),
+            base: self.pools.base_of(output),
+            samples: self.window.buffer_len,
+            stale: self.marks.at(output),
             level: level.first,
         };
-        let inputs = sources(kind.inputs(), pools, marks, output);
-        let machine = kind.settle(numbers, window, state);
-        machine.play(kind.enter(numbers, state), ring, own, other, inputs, target)
+        let inputs = sources(kind.inputs(), self.pools, self.marks, output);
+        let machine = kind.settle(numbers, self.window, self.state);
+        machine.play(
+            kind.enter(numbers, self.state),
+            ring,
+            own,
+            other,
+            inputs,
+            target,
+        )
     }
 
     // The output's kind picks the pool that is written.

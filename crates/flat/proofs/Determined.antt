@@ -2,6 +2,8 @@
 -- is written here. Assumes nothing.
 use Rattle.numbers.specs.Outcome.{Answer, by-definition}
 use Rattle.flat.proofs.form.form_of.Reads as form-of
+use Rattle.flat.proofs.patch.no_flat.Reads as no-flat
+use Rattle.flat.proofs.patch.patch_of.Reads as patch-of
 use Rattle.flat.proofs.stage.stage_of.Reads as stage-of
 
 pub form-determined : Answer form-of.Post
@@ -9,3 +11,6 @@ form-determined = by-definition
 
 pub stage-determined : Answer stage-of.Post
 stage-determined = by-definition
+
+pub patch-determined : Answer no-flat.Post × Answer patch-of.Post
+patch-determined = (by-definition, by-definition)

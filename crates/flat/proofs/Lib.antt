@@ -1,4 +1,2 @@
--- Laws that belong to no one function. Assumes nothing.
-pub mod Past
-pub mod Filters
+-- That each public contract determines its outcome. Assumes nothing.
 pub mod Determined

@@ -5,6 +5,7 @@ use mathlib.Core.Bool.{Bool, true, cond, _&&_}
 use mathlib.Core.List.{List, [], _∷_}
 use lib.Dec.{ltb, eqb}
 use lib.ListN.{getD}
+use lib.Ieee.{binary64, ofBits}
 use Rattle.magnetron.specs.Buffers.{bufferOf}
 use Rattle.microwave.specs.declared.parameter.Parameter.{Parameter}
 use Rattle.microwave.specs.declared.parameter.Parameter.the-variants.{Fixed, Slot, WindowSeconds, Absent}
@@ -18,9 +19,9 @@ use Rattle.microwave.specs.declared.oscillator.OscillatorSpec.{OscillatorSpec}
 use Rattle.microwave.specs.declared.waveguide.Reflectance.{Reflectance}
 use Rattle.microwave.specs.declared.waveguide.Reflectance.the-variants.{Positive, Negative}
 use Rattle.microwave.specs.declared.waveguide.WaveguideSpec.{WaveguideSpec}
-use Rattle.engine.specs.declared.stage.Kind.{Kind}
-use Rattle.engine.specs.declared.stage.Kind.the-variants as kind
-use Rattle.engine.specs.declared.stage.Stage.{Stage}
+use Rattle.stages.specs.declared.kind.Kind.{Kind}
+use Rattle.stages.specs.declared.kind.Kind.the-variants as kind
+use Rattle.stages.specs.declared.stage.Stage.{Stage}
 use Rattle.flat.specs.declared.form.Form.{Form}
 use Rattle.flat.specs.declared.form.Formed.{Formed}
 use Rattle.flat.specs.declared.form.Formed.the-variants as formed
@@ -30,9 +31,9 @@ use Rattle.flat.specs.declared.stage.Named.{Named}
 use Rattle.flat.specs.declared.stage.Named.the-variants as named
 use Rattle.flat.specs.Form.{formedOf}
 
--- by its mark: absent, the number, the slot, the window's seconds
+-- by its mark: absent, the number of these bits, the slot, the window's seconds
 unfoldable pub parameterOf : FlatParameter → Parameter
-parameterOf p = getD (Absent ∷ Fixed (p .number) ∷ Slot (p .slot) ∷ []) (p .mark) WindowSeconds
+parameterOf p = getD (Absent ∷ Fixed (ofBits binary64 (p .bits)) ∷ Slot (p .slot) ∷ []) (p .mark) WindowSeconds
 
 -- ---- choices, as the Rust lists them
 

@@ -1,4 +1,5 @@
-// A stage as plain numbers, the way a host in C, a file or a stream of tests has it, and the stage that they name.
+// A patch as plain numbers, the way a host in C, a file or a stream of tests has it, and the patch of stages that they name.
 // Whether buffers, sizes, slots and absences are good is for the run to judge.
 pub mod form;
+pub mod patch;
 pub mod stage;

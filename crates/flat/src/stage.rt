@@ -1,9 +1,8 @@
-// The stage that plain numbers name. Rests on `form` for which numbers a kind has; the stages are those of `engine`.
+// The stage that plain numbers name. Rests on `form` for which numbers a kind has, and on `words` for the number of given bits; the stages are
+// those of `stages`.
 use crate::form::Form;
 use crate::form::Formed;
 use crate::form::form_of;
-use engine::stage::Kind;
-use engine::stage::Stage;
 use magnetron::buffer::buffer_of;
 use microwave::filter::FilterType;
 use microwave::oscillator::Modulation;
@@ -12,15 +11,19 @@ use microwave::oscillator::OscillatorType;
 use microwave::parameter::Parameter;
 use microwave::waveguide::Reflectance;
 use microwave::waveguide::WaveguideSpec;
+use stages::kind::Kind;
+use stages::stage::Stage;
+use words::number::from_word;
 ghost use mathlib.Core.Path.{_≡_};
 ghost use Rattle.flat.specs.Stage.{parameterOf, waveformOf, modulationOf, reflectanceOf, filterOf, oscillatorOf, waveguideOf, kindOf, chosenOf, markedOf, knownOf, namedOf};
 
-// A parameter, by its mark: 0 absent, 1 the number, 2 the slot, 3 the window's seconds.
+// A parameter, by its mark: 0 absent, 1 the number of these bits, 2 the slot, 3 the window's seconds. Bits, since those of two numbers can be
+// compared, and a float has one NaN for many bits.
 #[repr(C)]
 pub struct FlatParameter {
     pub mark: usize,
     pub slot: usize,
-    pub number: f64,
+    pub bits: u64,
 }
 
 // A stage, its buffers by their numbers. What the kind does not have is not looked at.
@@ -51,7 +54,7 @@ fn parameter_of(p: FlatParameter) -> Parameter
     let mark = p.mark;
     match mark {
         0 => Parameter::Absent,
-        1 => Parameter::Fixed(p.number),
+        1 => Parameter::Fixed(from_word(p.bits)),
         2 => Parameter::Slot(p.slot),
         _ => Parameter::WindowSeconds,
     }

@@ -12,10 +12,10 @@ use contract.Monad.{Fun, fact}
 use contract.Lifetimes.{Lfts}
 use denote.Ref.{RefT, now}
 use Rattle.numbers.specs.Outcome.{Answer, Determined, by-definition, outcome}
-use Rattle.magnetron.specs.declared.check.Verdict.{Verdict}
+use Rattle.answers.specs.declared.verdict.Verdict.{Verdict}
 use Rattle.util.specs.declared.delay_line.Cursor.{Cursor}
 use Rattle.util.proofs.Determined.{Lent, lent-determined}
-use Rattle.host.specs.Host.{leftWritten, left}
+use Rattle.host.specs.Host.{flatAfterWrite, flatAfter}
 use Rattle.host.proofs.cursor.grynnadot_advance as advance
 use Rattle.host.proofs.pools.grynnadot_new_pool.Reads as new-pool
 use Rattle.host.proofs.pools.grynnadot_prepare.Reads as prepare
@@ -27,16 +27,16 @@ use Rattle.host.proofs.run.grynnadot_new_states.Reads as new-states
 use Rattle.host.proofs.run.grynnadot_run.Reads as run
 
 pub pools-determined : Determined (λ r s. outcome r (now (s .1 .1 .0))) new-pool.Post × Answer prepare.Post × Answer check-read.Post
-    × Determined (λ r s. leftWritten r (now (s .1 .0)) (now (s .1 .1 .0))) read-0-write-1.Post
-    × Determined (λ r s. leftWritten r (now (s .1 .0)) (now (s .1 .1 .0))) read-1-write-1.Post
-    × Determined (λ r s. leftWritten r (now (s .1 .0)) (now (s .1 .1 .0))) read-2-write-1.Post
+    × Determined (λ r s. flatAfterWrite r (now (s .1 .0)) (now (s .1 .1 .0))) read-0-write-1.Post
+    × Determined (λ r s. flatAfterWrite r (now (s .1 .0)) (now (s .1 .1 .0))) read-1-write-1.Post
+    × Determined (λ r s. flatAfterWrite r (now (s .1 .0)) (now (s .1 .1 .0))) read-2-write-1.Post
 pools-determined = (by-definition, by-definition, by-definition, by-definition, by-definition, by-definition)
 
 pub states-determined : Answer new-states.Post
 states-determined = by-definition
 
 -- A RUN: its answer with the records, and all three slices that it is lent to change
-pub run-determined : Determined (λ r s. left r (now (s .1 .1 .1 .1 .1 .1 .0)) (now (s .1 .1 .1 .1 .1 .1 .1 .0)) (now (s .1 .1 .1 .1 .1 .1 .1 .1 .1 .0))) run.Post
+pub run-determined : Determined (λ r s. flatAfter r (now (s .1 .1 .1 .1 .1 .1 .0)) (now (s .1 .1 .1 .1 .1 .1 .1 .0)) (now (s .1 .1 .1 .1 .1 .1 .1 .1 .1 .0))) run.Post
 run-determined = by-definition
 
 -- ---- proved by a walk, so that there is no `Reads`: its `ensures` is that of `advance_lent`, which util says is determined

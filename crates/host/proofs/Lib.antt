@@ -1,3 +1,2 @@
--- Laws that belong to no one function. Assumes nothing.
-pub mod Naming
+-- That each exported function's contract determines its outcome. Assumes nothing.
 pub mod Determined

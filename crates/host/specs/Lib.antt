@@ -1,3 +1,2 @@
--- What a host sees: which patch plain numbers name, and what each exported function answers and leaves, over the definitions of `flat`, `magnetron` and `engine`.
-pub mod Patch
+-- What a host sees: what each exported function answers and leaves, over the definitions of `flat`, `magnetron` and `engine`.
 pub mod Host

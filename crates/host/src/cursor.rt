@@ -1,5 +1,5 @@
 // The ring's cursor where the host lends it, as its record. Rests on `util` for the lent advance.
-use magnetron::check::Verdict;
+use answers::verdict::Verdict;
 use util::delay_line::Cursor;
 use util::lent::advance_lent;
 ghost use mathlib.Core.Path.{_≡_};

@@ -2,6 +2,5 @@
 // Records go by value, but for the cursor, which is lent. No enum crosses: a patch comes as plain numbers, an activity leaves as its rank.
 // Rests on `flat` for the numbers and on `engine`, `magnetron` and `util` for the work.
 pub mod cursor;
-pub mod patch;
 pub mod pools;
 pub mod run;

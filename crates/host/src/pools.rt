@@ -2,22 +2,22 @@
 // Rests on `magnetron` for the work. A single read is not exported: a slice cannot be handed back, and the host finds the samples by the mark.
 use crate::run::FlatAnswer;
 use crate::run::answer_of;
+use answers::verdict::Verdict;
 use magnetron::buffer::buffer_of;
-use magnetron::check::Verdict;
-use magnetron::input::Inputs;
-use magnetron::pool::Made;
+use magnetron::inputs::Inputs;
 use magnetron::pool::Pools;
-use magnetron::pool::Prepared;
+use magnetron::prepare::Made;
+use magnetron::prepare::Prepared;
 use magnetron::write::OutLevel;
 use magnetron::write::Wrote;
 ghost use mathlib.Core.Path.{_≡_};
 ghost use mathlib.Core.List.{[]};
 ghost use Rattle.numbers.specs.Outcome.{outcome};
+ghost use Rattle.answers.specs.Verdict.{verdictOf};
 ghost use Rattle.magnetron.specs.Buffers.{bufferOf};
-ghost use Rattle.magnetron.specs.Checks.{verdictOf};
 ghost use Rattle.magnetron.specs.Single.{lent, newPoolOf, preparedOf, readFault};
-ghost use Rattle.magnetron.specs.declared.input.Inputs.the-variants as inputs;
-ghost use Rattle.host.specs.Host.{levelIn, wroteOf, leftWritten, flatWriteOf};
+ghost use Rattle.magnetron.specs.declared.inputs.Inputs.the-variants as inputs;
+ghost use Rattle.host.specs.Host.{levelIn, wroteOf, flatAfterWrite, flatWriteOf};
 
 // What a single write answers, and the pools with its output's mark cleared.
 #[repr(C)]
@@ -52,7 +52,7 @@ fn level_in(has_level: bool, level: f64) -> OutLevel
 pub extern "C" fn grynnadot_new_pool(count: usize, capacity: usize, samples: &mut [f64]) -> Made
     ensures { λ r. ⌜ outcome r (now (samples .exit)) ≡ newPoolOf count capacity (now (samples .entry)) ⌝ }
 {
-    magnetron::pool::new_pool(count, capacity, samples)
+    magnetron::prepare::new_pool(count, capacity, samples)
 }
 
 // Marks every internal buffer stale and clears the reset flag; a refusal changes nothing.
@@ -66,7 +66,7 @@ pub extern "C" fn grynnadot_prepare(
 ) -> Prepared
     ensures { λ r. ⌜ r ≡ preparedOf (lent pools (now (internal .entry)) (now (external .entry)) (now (zeros .entry)) n) ⌝ }
 {
-    magnetron::pool::prepare(pools, internal, external, zeros, n)
+    magnetron::prepare::prepare(pools, internal, external, zeros, n)
 }
 
 // Whether n samples of a buffer can be read; where it is stale they are zeros.
@@ -97,7 +97,7 @@ fn write(
     level: f64,
     n: usize,
 ) -> FlatWrote
-    ensures { λ r. ⌜ leftWritten r (now (internal .exit)) (now (external .exit))
+    ensures { λ r. ⌜ flatAfterWrite r (now (internal .exit)) (now (external .exit))
         ≡ flatWriteOf (lent pools (now (internal .entry)) (now (external .entry)) (now (zeros .entry)) n) inputs (now (values .entry)) output «has_level» level ⌝ }
 {
     let to = buffer_of(output);
@@ -128,7 +128,7 @@ pub extern "C" fn grynnadot_read_0_write_1(
     n: usize,
     values: &[f64],
 ) -> FlatWrote
-    ensures { λ r. ⌜ leftWritten r (now (internal .exit)) (now (external .exit))
+    ensures { λ r. ⌜ flatAfterWrite r (now (internal .exit)) (now (external .exit))
         ≡ flatWriteOf (lent pools (now (internal .entry)) (now (external .entry)) (now (zeros .entry)) n) inputs.Nothing (now (values .entry)) output «has_level» level ⌝ }
 {
     write(
@@ -158,7 +158,7 @@ pub extern "C" fn grynnadot_read_1_write_1(
     level: f64,
     n: usize,
 ) -> FlatWrote
-    ensures { λ r. ⌜ leftWritten r (now (internal .exit)) (now (external .exit))
+    ensures { λ r. ⌜ flatAfterWrite r (now (internal .exit)) (now (external .exit))
         ≡ flatWriteOf (lent pools (now (internal .entry)) (now (external .entry)) (now (zeros .entry)) n) (inputs.One (bufferOf input)) [] output «has_level» level ⌝ }
 {
     let inputs = Inputs::One(buffer_of(input));
@@ -190,7 +190,7 @@ pub extern "C" fn grynnadot_read_2_write_1(
     level: f64,
     n: usize,
 ) -> FlatWrote
-    ensures { λ r. ⌜ leftWritten r (now (internal .exit)) (now (external .exit))
+    ensures { λ r. ⌜ flatAfterWrite r (now (internal .exit)) (now (external .exit))
         ≡ flatWriteOf (lent pools (now (internal .entry)) (now (external .entry)) (now (zeros .entry)) n) (inputs.Two (bufferOf first) (bufferOf second)) [] output «has_level» level ⌝ }
 {
     let inputs = Inputs::Two(buffer_of(first), buffer_of(second));

@@ -1,13 +1,15 @@
-// The run, from a patch of plain numbers. Rests on `patch` for the stages that they name, and on `engine` for the run of those.
-use crate::patch::FlatPatch;
-use crate::patch::patch_of;
+// The run, from a patch of plain numbers. Rests on `flat` for the patch that they name, and on `engine` for the run of it.
+use answers::answer::Answer;
 use engine::run::Ran;
-use engine::state::States;
+use flat::patch::FlatPatch;
+use flat::patch::patch_of;
 use magnetron::pool::Pools;
-use magnetron::write::Answer;
+use stages::state::States;
 ghost use mathlib.Core.Path.{_≡_};
-ghost use Rattle.engine.specs.Stage.{newStates};
-ghost use Rattle.host.specs.Host.{answerOf, ranOf, unknownRan, left, flatRunOf};
+ghost use Rattle.stages.specs.Stage.{newStates};
+ghost use Rattle.engine.specs.Run.{given};
+ghost use Rattle.flat.specs.Patch.{patchOf};
+ghost use Rattle.host.specs.Host.{answerOf, ranOf, unknownRan, flatAfter, flatRunOf};
 
 // 0 with stage 32, or a refusal's number with its stage; the activity from 0: Exhausted, Internal, External, Observer.
 #[repr(C)]
@@ -32,7 +34,7 @@ pub(crate) fn answer_of(answer: Answer) -> FlatAnswer
     FlatAnswer {
         number: answer.number,
         stage: answer.stage,
-        activity: magnetron::stage::rank(activity),
+        activity: answers::activity::rank(activity),
     }
 }
 
@@ -70,7 +72,7 @@ fn unknown_ran(stage: usize, pools: Pools, states: States) -> FlatRan
 pub extern "C" fn grynnadot_new_states() -> States
     ensures { λ r. ⌜ r ≡ newStates ⌝ }
 {
-    engine::state::new_states()
+    stages::state::new_states()
 }
 
 // A run of n samples, each `width` seconds wide. Where a stage's numbers name none, 22 and that stage. A refusal changes nothing.
@@ -88,8 +90,9 @@ pub extern "C" fn grynnadot_run(
     rings: &mut [f64],
     values: &[f64],
 ) -> FlatRan
-    ensures { λ r. ⌜ left r (now (internal .exit)) (now (external .exit)) (now (rings .exit))
-        ≡ flatRunOf patch (now (order .entry)) pools states n width (now (internal .entry)) (now (external .entry)) (now (zeros .entry)) (now (rings .entry)) (now (values .entry)) ⌝ }
+    ensures { λ r. ⌜ flatAfter r (now (internal .exit)) (now (external .exit)) (now (rings .exit))
+        ≡ flatRunOf patch (given (patchOf patch) pools states n width (now (internal .entry)) (now (external .entry)) (now (zeros .entry)) (now (rings .entry)) (now (values .entry)))
+        (now (order .entry)) ⌝ }
 {
     let named = patch_of(patch);
     if named.unknown != 32 {

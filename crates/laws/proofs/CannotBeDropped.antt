@@ -14,13 +14,13 @@ use lib.ListN.{getD, drop}
 use lib.Ieee.{Float, nan, ofInt, round}
 use Rattle.numbers.specs.Zeros.{isPlusZero}
 use Rattle.order.specs.Order.{Among, Once, SameOrder}
-use Rattle.magnetron.specs.declared.write.Answer.{Answer}
-use Rattle.engine.specs.Run.{Left}
+use Rattle.answers.specs.declared.answer.Answer.{Answer}
+use Rattle.engine.specs.Run.{After}
 use Rattle.laws.specs.Cases.{added, terms, Holds, All, table}
 use Rattle.laws.proofs.Listed.{listed, from}
 
 -- a window of one sample along an order; the buffers are case 12's
-abbrev run : List ℕ → Left
+abbrev run : List ℕ → After
 run = added terms 1
 
 abbrev Refused : List ℕ → Type 0
@@ -47,7 +47,7 @@ accepted = ap (λ (a : Answer). a .number) (twelve .0 .0)
 
 differ : run kept ≢ run swapped
 unfolding All Holds table isPlusZero ofInt round
-differ e = false≢true (ap (λ (l : List Float). isPlusZero (getD l 0 nan)) (sym (twelve .0 .1) ∙ ap (λ (l : Left). l .internal) e ∙ twelve .1 .0 .1))
+differ e = false≢true (ap (λ (l : List Float). isPlusZero (getD l 0 nan)) (sym (twelve .0 .1) ∙ ap (λ (l : After). l .internal) e ∙ twelve .1 .0 .1))
 
 -- ---- the two orders: the same numbers, each once
 

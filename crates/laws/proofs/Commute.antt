@@ -1,6 +1,6 @@
 -- Two stages that are not tied change places: as steps of a run, and as turns of the checks. No kind of stage is looked at: what a stage
 -- computes is a function of what it has to itself and of what it hears, whatever that function is.
---     step-swap                          THE COMMUTING LAW, of two steps
+--     staged-swap                          THE COMMUTING LAW, of two steps
 --     fault-same, turn-swap              the same of the checks
 --     untied                             what not being tied tells of two stages of the patch
 --     tied-even                          being tied has no direction
@@ -17,17 +17,18 @@ use lib.Ieee.{Float}
 use lib.Seq.{getD-set-other, set-comm}
 use borrow.Author.Tests.{ltb-true, ltb-false, lt-ltb}
 use Rattle.order.specs.Order.{Among, runs}
+use Rattle.answers.proofs.Tests.{and-left, and-right, or-false-left, or-false-right}
 use Rattle.magnetron.specs.Buffers.{capacityAt, Banks, lineAt, heard, write, pairs, staleAt, cleared, hits, meets, clash}
-use Rattle.magnetron.specs.Inputs.{Apart}
+use Rattle.magnetron.specs.Inside.Source.{Apart}
 use Rattle.magnetron.specs.declared.buffer.Marks.{Marks}
 use Rattle.magnetron.specs.declared.buffer.BufferIndex.{BufferIndex}
-use Rattle.magnetron.proofs.Tests.{and-left, and-right, or-false-left, or-false-right}
 use Rattle.magnetron.proofs.Parts.{read-apart, store-apart}
 use Rattle.magnetron.proofs.Stores.{mark-other, mark-swap, meets-none}
 use Rattle.magnetron.proofs.Writes.{unseen, folds-swap, map-same, pairs-to, write-other, write-swap}
-use Rattle.engine.specs.Stage.{own}
-use Rattle.engine.specs.Run.{Plan, World, noState, insAt, outsAt, shapeIn, sumTo, lenIn, ringAt, ownOf, Played, playedAt, putPlayed, step, faultOf, fault, turned}
-use Rattle.engine.proofs.EndToEnd.{sum-step}
+use Rattle.stages.specs.Stage.{own}
+use Rattle.stages.specs.Rings.{noState, sumTo, lenIn, ringAt}
+use Rattle.stages.proofs.EndToEnd.{sum-step}
+use Rattle.engine.specs.Run.{Plan, World, insAt, outsAt, shapeIn, ownOf, Played, playedAt, putPlayed, staged, faultOf, fault, turned}
 use Rattle.laws.specs.Tied.{isThere, disturbs, tied}
 
 -- rings of two stages lie apart, since a ring ends where the next one begins, or before
@@ -105,8 +106,8 @@ module _ (P : Plan) where
         (read-apart (w .rings) (a .kept .ring) (lenIn (P .patch) j) (ringAt (P .patch) j) (lenIn (P .patch) k) (ringAt (P .patch) k) (rings-apart (lenIn (P .patch)) j k d) t)
 
     -- a stage plays the same after a stage that is not tied to it
-    played-same : (w : World) → playedAt P j (step P k w) ≡ playedAt P j w
-    unfolding step putPlayed
+    played-same : (w : World) → playedAt P j (staged P k w) ≡ playedAt P j w
+    unfolding staged putPlayed
     played-same w = rw (own-same (playedAt P k w) w, heard-same (playedAt P k w .outs) (w .banks))
 
     writes-swap : (us vs : List (List Float)) (p : Banks)
@@ -125,13 +126,13 @@ module _ (P : Plan) where
     }
 
   -- THE COMMUTING LAW
-  pub step-swap : (fits : (b : BufferIndex) → shapeIn P .window ≤ capacityAt (shapeIn P) b) (j k : ℕ) → j ≢ k → Untied j k → (w : World)
-      → step P j (step P k w) ≡ step P k (step P j w)
-  unfolding step
-  step-swap fits j k d e w =
-      ap (λ (a : Played). putPlayed P j a (step P k w)) (played-same fits j k d e w)
+  pub staged-swap : (fits : (b : BufferIndex) → shapeIn P .window ≤ capacityAt (shapeIn P) b) (j k : ℕ) → j ≢ k → Untied j k → (w : World)
+      → staged P j (staged P k w) ≡ staged P k (staged P j w)
+  unfolding staged
+  staged-swap fits j k d e w =
+      ap (λ (a : Played). putPlayed P j a (staged P k w)) (played-same fits j k d e w)
       ∙ put-swap fits j k d e (playedAt P j w) (playedAt P k w) w
-      ∙ ap (λ (a : Played). putPlayed P k a (step P j w)) (sym (played-same fits k j (λ q. d (sym q)) (turned-round j k e) w))
+      ∙ ap (λ (a : Played). putPlayed P k a (staged P j w)) (sym (played-same fits k j (λ q. d (sym q)) (turned-round j k e) w))
 
   -- ---- the checks
 

@@ -5,24 +5,22 @@ use mathlib.Core.List.{List, [], _∷_, zipWith}
 use mathlib.Core.Option.{none}
 use Prim.Native.Nat.{ℕ, zero, suc}
 use lib.ListN.{drop}
-use lib.Ieee.{Float, ofBits, ofInt, round, neg, add, sub, mul, lt, isNan}
+use lib.Ieee.{ofBits, ofInt, round, neg, add, sub, mul, lt, isNan}
 use Rattle.numbers.specs.Small.{maxOf, minOf}
 use Rattle.numbers.specs.Ceil.{ceilOf, gapOf}
 use Rattle.numbers.specs.Zeros.{isPlusZero, allPlusZero}
-use Rattle.magnetron.specs.Window.{tab, stateAt}
+use Rattle.answers.specs.Answer.{acceptedAnswer}
+use Rattle.answers.specs.declared.activity.StageActivity.the-variants.{Exhausted}
+use Rattle.magnetron.specs.Signals.{tab, stateAt}
 use Rattle.magnetron.specs.Buffers.{lineOf, withLine, lineAt, withLineAt, heard, laid, write, staleAt, cleared}
-use Rattle.magnetron.specs.Pools.{marksIn}
 use Rattle.magnetron.specs.Checks.{poolOk, shapeOk, windowOk, hasBuffer}
-use Rattle.magnetron.specs.declared.pool.Pools.{Pools}
-use Rattle.magnetron.specs.declared.stage.StageActivity.the-variants.{Exhausted}
 use Rattle.util.specs.DelayLine as ring
 use Rattle.util.specs.Cases as rings
 use Rattle.util.specs.Comb.{comb, combed}
 use Rattle.util.specs.AllPass.{passed}
 use Rattle.microwave.specs.Parameter.{allFound, numbersOf}
-use Rattle.engine.specs.declared.stage.Patch.{Patch}
-use Rattle.engine.specs.declared.state.States.{States}
-use Rattle.engine.specs.Run.{windowOf, planOf, worldOf, left, sumTo, ownOf, putPlayed, step, louder, orderly, allTo, ringsOk, entry, faultOf, fault, turned, judged, ended, rendered, leftBy, runOf}
+use Rattle.stages.specs.Rings.{sumTo, allTo, ringsOk}
+use Rattle.engine.specs.Run.{Given, planOf, worldOf, after, ownOf, putPlayed, staged, louder, orderly, entry, faultOf, fault, turned, judged, ended, rendered, afterBy, runOf}
 use Rattle.laws.specs.Cases.{Case, Holds, All, table}
 
 infixr 20 _&_
@@ -30,7 +28,7 @@ abbrev _&_ : {P Q : Type 0} → P → Q → P × Q
 p & q = (p, q)
 
 pub listed : All table
-unfolding All Holds table rings.Holds rings.answers ofBits ofInt round neg add sub mul lt isNan maxOf minOf ceilOf gapOf isPlusZero allPlusZero tab stateAt zipWith lineOf withLine lineAt withLineAt heard laid write staleAt cleared poolOk shapeOk windowOk hasBuffer ring.heard ring.inRing ring.delayOf ring.delayedBy comb combed passed allFound numbersOf sumTo ownOf putPlayed step louder orderly allTo ringsOk entry faultOf fault turned judged ended rendered leftBy runOf
+unfolding All Holds table rings.Holds rings.answers ofBits ofInt round neg add sub mul lt isNan maxOf minOf ceilOf gapOf isPlusZero allPlusZero tab stateAt zipWith lineOf withLine lineAt withLineAt heard laid write staleAt cleared poolOk shapeOk windowOk hasBuffer ring.tapped ring.inRing ring.delayOf ring.delayedBy comb combed passed allFound numbersOf sumTo ownOf putPlayed staged louder orderly allTo ringsOk entry faultOf fault turned judged ended rendered afterBy runOf
 listed =
     (refl, refl) & (refl, refl) & (refl, refl) & (refl, refl) & (refl, refl)
     & refl & refl & refl & refl & refl & refl & refl
@@ -44,9 +42,7 @@ from (suc n) [] h = h
 from (suc n) (c ∷ cs) h = from n cs (h .1)
 
 -- Case 13 is a sentence about every input: "Empty order, checks 1 to 4 passed: 0, Exhausted.", and everything else is as it was.
-pub thirteen : (patch : Patch) (pools : Pools) (states : States) (n : ℕ) (width : Float) (internal external zeros rings values : List Float)
-    → entry (planOf patch pools (windowOf n width) values) zeros [] (worldOf (marksIn pools) (states .stages) internal external rings) ≡ none
-    → runOf patch [] pools states n width internal external zeros rings values
-    ≡ left (record { answer = record { number = 0; stage = 32; activity = Exhausted }; pools = pools; states = states }) internal external rings
-unfolding runOf rendered judged ended leftBy
-thirteen patch pools states n width internal external zeros rings values e = rw e
+pub thirteen : (g : Given) → entry (planOf g) (g .zeros) [] (worldOf g) ≡ none
+    → runOf g [] ≡ after (record { answer = acceptedAnswer Exhausted; pools = g .pools; states = g .states }) (g .internal) (g .external) (g .rings)
+unfolding runOf rendered judged ended afterBy
+thirteen g e = rw e

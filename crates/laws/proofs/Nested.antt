@@ -1,4 +1,4 @@
--- A NESTED RUN, of any inner patch, order, window and lent slices, and any outer pools. "In a nested run the outer internal buffers are the inner external ones; their marks
+-- A NESTED RUN, of anything that an inner run is given, any order, and any outer pools. "In a nested run the outer internal buffers are the inner external ones; their marks
 -- are not touched by prepare."
 --     inner-prepare      leaves the outer pools as they were
 --     inner-run          clears the mark of each outer buffer that a stage of the order writes, and of no other
@@ -12,26 +12,23 @@ use mathlib.Core.List.{List, [], _∷_}
 use mathlib.Core.Option.{Option, none, some}
 use Prim.Native.Nat.{ℕ, zero, suc}
 use lib.ListN.{getD, set}
-use lib.Ieee.{Float}
 use borrow.Author.Tests.{eqb-true}
 use Rattle.order.specs.Order.{runs}
 use Rattle.order.specs.Checks.{passed}
+use Rattle.answers.specs.declared.verdict.Verdict.{Verdict}
 use Rattle.magnetron.specs.Buffers.{sameBuffer, hits, marksOf, staleAt, cleared}
 use Rattle.magnetron.specs.Pools.{marksIn, marked}
-use Rattle.magnetron.specs.Single.{lent, preparedOf}
+use Rattle.magnetron.specs.Single.{Lent, lent, preparedOf}
 use Rattle.magnetron.specs.declared.buffer.BufferIndex.{BufferIndex}
 use Rattle.magnetron.specs.declared.buffer.BufferIndex.the-variants.{External, Internal}
 use Rattle.magnetron.specs.declared.buffer.Marks.{Marks}
-use Rattle.magnetron.specs.declared.check.Verdict.{Verdict}
 use Rattle.magnetron.specs.declared.pool.Pool.{Pool}
 use Rattle.magnetron.specs.declared.pool.Pools.{Pools}
 use Rattle.magnetron.proofs.Stores.{mark-other, differ}
 use Rattle.magnetron.proofs.Stays.{prepare-keeps}
-use Rattle.engine.specs.declared.stage.Patch.{Patch}
-use Rattle.engine.specs.declared.state.States.{States}
-use Rattle.engine.specs.Run.{Plan, World, outsAt, step, putPlayed, judged, ended, rendered, Left, leftBy, windowOf, planOf, worldOf, runOf}
+use Rattle.engine.specs.Run.{Plan, World, outsAt, staged, putPlayed, judged, ended, rendered, Given, After, afterBy, planOf, worldOf, runOf}
 use Rattle.engine.proofs.Along.{write-marks}
-use Rattle.laws.specs.Nested.{innerPools, outerPools, writes}
+use Rattle.laws.specs.Nested.{nestedIn, outerPools, writes}
 use Rattle.laws.proofs.Refusals.{refused-unchanged}
 use Rattle.laws.proofs.TwoOrders.{went, stopped}
 
@@ -67,62 +64,65 @@ stale-among b (c ∷ cs) m =
 
 module _ (P : Plan) where
   -- what a stage's turn leaves of a mark
-  stale-step : (b : BufferIndex) (k : ℕ) (w : World) → staleAt b (marksOf (step P k w .banks)) ≡ (staleAt b (marksOf (w .banks)) && not (hits b (outsAt P k)))
-  unfolding step putPlayed
-  stale-step b k w = rw write-marks (stale-among b (outsAt P k) (marksOf (w .banks)))
+  stale-staged : (b : BufferIndex) (k : ℕ) (w : World) → staleAt b (marksOf (staged P k w .banks)) ≡ (staleAt b (marksOf (w .banks)) && not (hits b (outsAt P k)))
+  unfolding staged putPlayed
+  stale-staged b k w = rw write-marks (stale-among b (outsAt P k) (marksOf (w .banks)))
 
-  stale-after : (b : BufferIndex) (ks : List ℕ) (w : World) → staleAt b (marksOf (runs (step P) ks w .banks)) ≡ (staleAt b (marksOf (w .banks)) && not (writes P ks b))
+  stale-after : (b : BufferIndex) (ks : List ℕ) (w : World) → staleAt b (marksOf (runs (staged P) ks w .banks)) ≡ (staleAt b (marksOf (w .banks)) && not (writes P ks b))
   stale-after b [] w = sym (and-true (staleAt b (marksOf (w .banks))))
   stale-after b (k ∷ ks) w =
-      stale-after b ks (step P k w)
-      ∙ ap (λ (x : Bool). x && not (writes P ks b)) (stale-step b k w)
+      stale-after b ks (staged P k w)
+      ∙ ap (λ (x : Bool). x && not (writes P ks b)) (stale-staged b k w)
       ∙ both-not (staleAt b (marksOf (w .banks))) (hits b (outsAt P k)) (writes P ks b)
 
 -- ---- the theorem
 
-module _ (inner outer : Pools) (n : ℕ) (internal external zeros : List Float) where
-  abbrev pools : Pools
-  pools = innerPools inner outer
+module _ (outer : Pools) (g : Given) where
+  abbrev nested : Given
+  nested = nestedIn outer g
 
-  pub inner-prepare : outerPools outer (preparedOf (lent pools internal external zeros n) .pools) ≡ outer
-  inner-prepare = ap (λ (p : Pool). record { internal = p; external = outer .external; reset = outer .reset }) (prepare-keeps (lent pools internal external zeros n))
+  abbrev whole : Lent
+  whole = lent (nested .pools) (g .internal) (g .external) (g .zeros) (g .samples)
 
-  module _ (patch : Patch) (states : States) (width : Float) (rings values : List Float) (order : List ℕ) where
+  pub inner-prepare : outerPools outer (preparedOf whole .pools) ≡ outer
+  inner-prepare = ap (λ (p : Pool). record { internal = p; external = outer .external; reset = outer .reset }) (prepare-keeps whole)
+
+  module _ (order : List ℕ) where
     abbrev plan : Plan
-    plan = planOf patch pools (windowOf n width) values
+    plan = planOf nested
 
     abbrev world : World
-    world = worldOf (marksIn pools) (states .stages) internal external rings
+    world = worldOf nested
 
-    abbrev run : Left
-    run = runOf patch order pools states n width internal external zeros rings values
+    abbrev run : After
+    run = runOf nested order
 
-    abbrev after : Pools
-    after = outerPools outer (run .ran .pools)
+    abbrev handed : Pools
+    handed = outerPools outer (run .ran .pools)
 
-    went-through : run .ran .answer .number ≡ 0 → passed (judged plan zeros order world) ≡ true
+    went-through : run .ran .answer .number ≡ 0 → passed (judged plan (g .zeros) order world) ≡ true
     unfolding runOf
-    went-through e = go (passed (judged plan zeros order world)) refl
+    went-through e = go (passed (judged plan (g .zeros) order world)) refl
       where
-        go : (t : Bool) → passed (judged plan zeros order world) ≡ t → t ≡ true
+        go : (t : Bool) → passed (judged plan (g .zeros) order world) ≡ t → t ≡ true
         go true q = refl
-        go false q = absurd (stopped plan zeros order world q e)
+        go false q = absurd (stopped plan (g .zeros) order world q e)
 
-    pub inner-run : run .ran .answer .number ≡ 0 → (k : ℕ) → staleAt (Internal k) (marksIn after) ≡ (staleAt (Internal k) (marksIn outer) && not (writes plan order (External k)))
+    pub inner-run : run .ran .answer .number ≡ 0 → (k : ℕ) → staleAt (Internal k) (marksIn handed) ≡ (staleAt (Internal k) (marksIn outer) && not (writes plan order (External k)))
     unfolding runOf
     inner-run e k =
-        ap (λ (l : Left). staleAt (Internal k) (marksIn (outerPools outer (l .ran .pools)))) (went plan zeros order world (went-through e))
-        ∙ (unfold ended leftBy staleAt in stale-after plan (External k) order world)
+        ap (λ (l : After). staleAt (Internal k) (marksIn (outerPools outer (l .ran .pools)))) (went plan (g .zeros) order world (went-through e))
+        ∙ (unfold ended afterBy staleAt in stale-after plan (External k) order world)
 
-    pub inner-run-else : after ≡ record { internal = marked (outer .internal) (run .ran .pools .external .stale); external = outer .external; reset = outer .reset }
+    pub inner-run-else : handed ≡ record { internal = marked (outer .internal) (run .ran .pools .external .stale); external = outer .external; reset = outer .reset }
     unfolding runOf rendered
-    inner-run-else = go (judged plan zeros order world)
+    inner-run-else = go (judged plan (g .zeros) order world)
       where
         go : (o : Option Verdict)
-            → outerPools outer (leftBy plan world (ended plan order world o) .ran .pools)
-            ≡ record { internal = marked (outer .internal) (leftBy plan world (ended plan order world o) .ran .pools .external .stale); external = outer .external; reset = outer .reset }
-        go none = unfold ended leftBy in refl
-        go (some v) = unfold ended leftBy in refl
+            → outerPools outer (afterBy plan world (ended plan order world o) .ran .pools)
+            ≡ record { internal = marked (outer .internal) (afterBy plan world (ended plan order world o) .ran .pools .external .stale); external = outer .external; reset = outer .reset }
+        go none = unfold ended afterBy in refl
+        go (some v) = unfold ended afterBy in refl
 
-    pub inner-refused : run .ran .answer .number ≢ 0 → after ≡ outer
-    inner-refused r = ap (λ (l : Left). outerPools outer (l .ran .pools)) (refused-unchanged patch pools states n width internal external zeros rings values order r)
+    pub inner-refused : run .ran .answer .number ≢ 0 → handed ≡ outer
+    inner-refused r = ap (λ (l : After). outerPools outer (l .ran .pools)) (refused-unchanged nested order r)

@@ -7,24 +7,21 @@ use Prim.Native.Nat.{ℕ, zero, suc}
 use lib.ListN.{getD}
 use lib.Ieee.{Float}
 use Rattle.order.specs.Order.{runs}
-use Rattle.magnetron.specs.Pools.{marksIn}
-use Rattle.magnetron.specs.Window.{stateAt}
-use Rattle.magnetron.specs.declared.check.Verdict.{Verdict}
-use Rattle.magnetron.specs.declared.pool.Pools.{Pools}
+use Rattle.answers.specs.declared.verdict.Verdict.{Verdict}
+use Rattle.magnetron.specs.Signals.{stateAt}
 use Rattle.microwave.specs.Filter.{machineOf, withNumbers}
 use Rattle.microwave.specs.declared.filter.FilterType.{FilterType}
 use Rattle.microwave.specs.declared.filter.FilterType.the-variants as filter
 use Rattle.microwave.specs.declared.parameter.Numbers.{Numbers}
-use Rattle.engine.specs.declared.machine.Machine.{Machine}
-use Rattle.engine.specs.declared.machine.Machine.the-variants as machine
-use Rattle.engine.specs.declared.machine.RenderWindow.{RenderWindow}
-use Rattle.engine.specs.declared.stage.Kind.{Kind}
-use Rattle.engine.specs.declared.stage.Kind.the-variants.{Pass, Pow3, Clip, Filter, Oscillator, ModOscillator, Waveguide, RingModulator}
-use Rattle.engine.specs.declared.stage.Patch.{Patch}
-use Rattle.engine.specs.declared.state.State.{State}
-use Rattle.engine.specs.declared.state.States.{States}
-use Rattle.engine.specs.Stage.{Own, own, filterMachine, settled, entered, Hears, nextOf}
-use Rattle.engine.specs.Run.{Plan, World, noState, stageIn, stageAt, ownOf, playedAt, putPlayed, step, judged, ended, rendered, leftBy, windowOf, planOf, worldOf, runOf}
+use Rattle.stages.specs.declared.machine.Machine.{Machine}
+use Rattle.stages.specs.declared.machine.Machine.the-variants as machine
+use Rattle.stages.specs.declared.window.RenderWindow.{RenderWindow}
+use Rattle.stages.specs.declared.kind.Kind.{Kind}
+use Rattle.stages.specs.declared.kind.Kind.the-variants.{Pass, Pow3, Clip, Filter, Oscillator, ModOscillator, Waveguide, RingModulator}
+use Rattle.stages.specs.declared.state.State.{State}
+use Rattle.stages.specs.Stage.{Own, own, filterMachine, settled, entered, Hears, nextOf}
+use Rattle.stages.specs.Rings.{noState, stageIn}
+use Rattle.engine.specs.Run.{Given, Plan, World, stageAt, ownOf, playedAt, putPlayed, staged, judged, ended, rendered, afterBy, planOf, worldOf, runOf}
 use Rattle.engine.proofs.Along.{set-at-or}
 use Rattle.laws.specs.Families.{Family, no-memory, phases, one-pole, biquad, string, filterFamily, familyOf, AlikeBut}
 
@@ -106,32 +103,26 @@ module _ (P : Plan) where
   abbrev stateOf : ℕ → World → State
   stateOf k w = getD (w .states) k noState
 
-  step-part : (j k : ℕ) (w : World) → AlikeBut (familyOf (stageAt P j .kind)) (stateOf j w) (stateOf j (step P k w))
-  unfolding step putPlayed ownOf
-  step-part j k w =
+  staged-part : (j k : ℕ) (w : World) → AlikeBut (familyOf (stageAt P j .kind)) (stateOf j w) (stateOf j (staged P k w))
+  unfolding staged putPlayed ownOf
+  staged-part j k w =
       set-at-or (λ (i : ℕ) (s : State). AlikeBut (familyOf (stageAt P i .kind)) (stateOf i w) s) (w .states) k j (playedAt P k w .kept .state) noState
       (λ e. rw e (stage-part (stageAt P k .kind) _ (P .window) (stateOf k w) _ _ _)) (alike (familyOf (stageAt P j .kind)) (stateOf j w))
 
-  steps-part : (j : ℕ) (ks : List ℕ) (w : World) → AlikeBut (familyOf (stageAt P j .kind)) (stateOf j w) (stateOf j (runs (step P) ks w))
-  steps-part j [] w = alike (familyOf (stageAt P j .kind)) (stateOf j w)
-  steps-part j (k ∷ ks) w = then (familyOf (stageAt P j .kind)) _ _ _ (step-part j k w) (steps-part j ks (step P k w))
+  order-part : (j : ℕ) (ks : List ℕ) (w : World) → AlikeBut (familyOf (stageAt P j .kind)) (stateOf j w) (stateOf j (runs (staged P) ks w))
+  order-part j [] w = alike (familyOf (stageAt P j .kind)) (stateOf j w)
+  order-part j (k ∷ ks) w = then (familyOf (stageAt P j .kind)) _ _ _ (staged-part j k w) (order-part j ks (staged P k w))
 
 -- ---- a run
 
-module _ (patch : Patch) (pools : Pools) (states : States) (n : ℕ) (width : Float) (internal external zeros rings values : List Float) (order : List ℕ) where
-  abbrev after : States
-  after = runOf patch order pools states n width internal external zeros rings values .ran .states
+module _ (g : Given) (order : List ℕ) where
+  abbrev family : ℕ → Family
+  family k = familyOf (stageIn (g .patch) k .kind)
 
-  pub own-part : (k : ℕ) → AlikeBut (familyOf (stageIn patch k .kind)) (getD (states .stages) k noState) (getD (after .stages) k noState)
+  pub own-part : (k : ℕ) → AlikeBut (family k) (getD (g .states .stages) k noState) (getD (runOf g order .ran .states .stages) k noState)
   unfolding runOf rendered
-  own-part k = go (judged plan zeros order world)
+  own-part k = go (judged (planOf g) (g .zeros) order (worldOf g))
     where
-      plan : Plan
-      plan = planOf patch pools (windowOf n width) values
-
-      world : World
-      world = worldOf (marksIn pools) (states .stages) internal external rings
-
-      go : (o : Option Verdict) → AlikeBut (familyOf (stageIn patch k .kind)) (getD (states .stages) k noState) (getD (leftBy plan world (ended plan order world o) .ran .states .stages) k noState)
-      go none = unfold ended leftBy in steps-part plan k order world
-      go (some v) = unfold ended leftBy in alike (familyOf (stageIn patch k .kind)) (getD (states .stages) k noState)
+      go : (o : Option Verdict) → AlikeBut (family k) (getD (g .states .stages) k noState) (getD (afterBy (planOf g) (worldOf g) (ended (planOf g) order (worldOf g) o) .ran .states .stages) k noState)
+      go none = unfold ended afterBy in order-part (planOf g) k order (worldOf g)
+      go (some v) = unfold ended afterBy in alike (family k) (getD (g .states .stages) k noState)

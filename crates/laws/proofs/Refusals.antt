@@ -14,19 +14,16 @@ use lib.ListN.{length}
 use lib.Ieee.{Float}
 use Rattle.order.specs.Order.{Among}
 use Rattle.order.specs.Checks.{unless, first, verdict}
+use Rattle.answers.specs.declared.verdict.Verdict.{Verdict}
+use Rattle.answers.specs.declared.activity.StageActivity.the-variants.{Exhausted}
+use Rattle.answers.specs.declared.answer.Answer.{Answer}
 use Rattle.magnetron.specs.Buffers.{marksOf}
-use Rattle.magnetron.specs.Pools.{marksIn}
 use Rattle.magnetron.specs.Checks.{shapeOk, windowOk, allThere, noClash}
 use Rattle.magnetron.specs.declared.buffer.Marks.{Marks}
-use Rattle.magnetron.specs.declared.check.Verdict.{Verdict}
-use Rattle.magnetron.specs.declared.pool.Pools.{Pools}
-use Rattle.magnetron.specs.declared.stage.StageActivity.the-variants.{Exhausted}
-use Rattle.magnetron.specs.declared.write.Answer.{Answer}
 use Rattle.microwave.specs.Parameter.{allFound}
-use Rattle.engine.specs.Stage.{inputsOf, asksOf}
-use Rattle.engine.specs.declared.stage.Patch.{Patch}
-use Rattle.engine.specs.declared.state.States.{States}
-use Rattle.engine.specs.Run.{Plan, World, stageAt, levelAsk, orderly, ringsOk, Left, left, windowOf, planOf, worldOf, entry, faultOf, named, fault, turned, judged, ended, rendered, leftBy, runOf}
+use Rattle.stages.specs.Stage.{inputsOf, asksOf, levelAsk}
+use Rattle.stages.specs.Rings.{ringsOk}
+use Rattle.engine.specs.Run.{Plan, World, stageAt, orderly, Given, After, after, planOf, worldOf, entry, faultOf, named, fault, turned, judged, ended, rendered, afterBy, runOf}
 
 -- ---- the numbers of the checks
 
@@ -72,41 +69,41 @@ along-names P (k ∷ ks) m = go (fault P k m) (verdict (fault P) (turned P) ks (
 
 -- ---- a run
 
-module _ (patch : Patch) (pools : Pools) (states : States) (n : ℕ) (width : Float) (internal external zeros rings values : List Float) (order : List ℕ) where
+module _ (g : Given) (order : List ℕ) where
   abbrev plan : Plan
-  plan = planOf patch pools (windowOf n width) values
+  plan = planOf g
 
   abbrev world : World
-  world = worldOf (marksIn pools) (states .stages) internal external rings
+  world = worldOf g
 
-  abbrev run : Left
-  run = runOf patch order pools states n width internal external zeros rings values
+  abbrev run : After
+  run = runOf g order
 
   -- "0 | done; stage 32"; "A refusal returns its number, the stage (32 for 1 to 4) .."
   abbrev Answered : Answer → Type 0
   Answered a = ((a .number ≡ 0) × (a .stage ≡ 32)) ⊎ ((1 ≤ a .number) × (a .number ≤ 4) × (a .stage ≡ 32)) ⊎ ((5 ≤ a .number) × (a .number ≤ 7) × Among (a .stage) order)
 
   pub answered : Answered (run .ran .answer)
-  unfolding runOf rendered judged ended leftBy
+  unfolding runOf rendered judged ended afterBy
   answered =
-      go (named 32 (entry plan zeros order world)) (verdict (fault plan) (turned plan) order (marksOf (world .banks)))
-      (entry-names plan zeros order world) (along-names plan order (marksOf (world .banks)))
+      go (named 32 (entry plan (g .zeros) order world)) (verdict (fault plan) (turned plan) order (marksOf (world .banks)))
+      (entry-names plan (g .zeros) order world) (along-names plan order (marksOf (world .banks)))
     where
-      go : (o along : Option Verdict) → Names 1 4 (32 ∷ []) o → Names 5 7 order along → Answered (leftBy plan world (ended plan order world (first o along)) .ran .answer)
+      go : (o along : Option Verdict) → Names 1 4 (32 ∷ []) o → Names 5 7 order along → Answered (afterBy plan world (ended plan order world (first o along)) .ran .answer)
       go none none h k = inl (refl, refl)
       go none (some v) h k = inr (inr k)
       go (some v) along (low, high, inl e) k = inr (inl (low, high, e))
 
   -- ".. and Exhausted; every record and lent slice is unchanged."
-  abbrev Unchanged : Left → Type 0
-  Unchanged l = l ≡ left (record { answer = record { number = l .ran .answer .number; stage = l .ran .answer .stage; activity = Exhausted }; pools = pools; states = states }) internal external rings
+  abbrev Unchanged : After → Type 0
+  Unchanged l = l ≡ after (record { answer = record { number = l .ran .answer .number; stage = l .ran .answer .stage; activity = Exhausted }; pools = g .pools; states = g .states }) (g .internal) (g .external) (g .rings)
 
   pub refused-unchanged : run .ran .answer .number ≢ 0 → Unchanged run
-  unfolding runOf rendered ended leftBy
-  refused-unchanged = go (judged plan zeros order world)
+  unfolding runOf rendered ended afterBy
+  refused-unchanged = go (judged plan (g .zeros) order world)
     where
-      leaves : Option Verdict → Left
-      leaves o = leftBy plan world (ended plan order world o)
+      leaves : Option Verdict → After
+      leaves o = afterBy plan world (ended plan order world o)
 
       go : (o : Option Verdict) → leaves o .ran .answer .number ≢ 0 → Unchanged (leaves o)
       go none r = absurd (r refl)

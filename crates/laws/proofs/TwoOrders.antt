@@ -2,7 +2,7 @@
 -- crate `order`, or one of its consequences.
 --     same-judged       the checks pass for both, or for neither
 --     same-ended        where they pass: activity, buffers, states and rings
---     same-left         both together
+--     same-after         both together
 -- Assumes nothing.
 use mathlib.Core.Path.{_≡_, refl, sym, ap, _∙_}
 use mathlib.Core.Logic.{_≢_, _⊎_, inl, inr, ⊎-elim}
@@ -19,25 +19,25 @@ use Rattle.order.specs.Order.{Among, Once, SameOrder, runs}
 use Rattle.order.specs.Checks.{passed, verdict}
 use Rattle.order.proofs.Trace.{trace}
 use Rattle.order.proofs.Checks.{shuffle, passed-first, same-verdict}
-use Rattle.magnetron.specs.Activity.{greaterOf}
+use Rattle.answers.specs.Activity.{greaterOf}
+use Rattle.answers.specs.declared.verdict.Verdict.{Verdict}
+use Rattle.answers.specs.declared.activity.StageActivity.{StageActivity}
+use Rattle.answers.specs.declared.activity.StageActivity.the-variants.{Exhausted}
+use Rattle.answers.proofs.Tests.{and-left, and-right, or-cases}
+use Rattle.answers.proofs.Greatest.{greater-comm, greater-assoc}
 use Rattle.magnetron.specs.Buffers.{marksOf, activityOf}
 use Rattle.magnetron.specs.declared.buffer.BufferIndex.{BufferIndex}
 use Rattle.magnetron.specs.declared.buffer.Marks.{Marks}
-use Rattle.magnetron.specs.declared.check.Verdict.{Verdict}
-use Rattle.magnetron.specs.declared.stage.StageActivity.{StageActivity}
-use Rattle.magnetron.specs.declared.stage.StageActivity.the-variants.{Exhausted}
-use Rattle.magnetron.proofs.Tests.{and-left, and-right, or-cases}
 use Rattle.magnetron.proofs.Writes.{folds-swap}
-use Rattle.magnetron.proofs.Greatest.{greater-comm, greater-assoc}
 use Rattle.magnetron.proofs.Told.{fits}
-use Rattle.engine.specs.Run.{Plan, World, outsAt, step, louder, allBelow, holds, repeats, orderly, entry, named, fault, turned, judged, ended, rendered, Left, leftBy}
-use Rattle.engine.specs.Code.{returned, Entered}
+use Rattle.engine.specs.Run.{Plan, World, outsAt, staged, louder, allBelow, holds, repeats, orderly, entry, named, fault, turned, judged, ended, rendered, After, afterBy}
+use Rattle.engine.specs.Inside.{returned, Admitted}
 use Rattle.engine.proofs.Entries.{entry-told}
 use Rattle.engine.proofs.Faults.{passed-named}
 use Rattle.engine.proofs.Judged.{judged-passed, passed-all}
-use Rattle.engine.proofs.Ends.{left-done}
+use Rattle.engine.proofs.Ends.{after-done}
 use Rattle.laws.specs.Tied.{tied}
-use Rattle.laws.proofs.Commute.{untied, tied-even, step-swap, fault-same, turn-swap}
+use Rattle.laws.proofs.Commute.{untied, tied-even, staged-swap, fault-same, turn-swap}
 
 -- ---- check 3 along an order in which each stands once
 
@@ -79,21 +79,21 @@ swap-in op assoc comm s a b = assoc s a b ∙ ap (op s) (comm a b) ∙ sym (asso
 -- ---- a run along one order
 
 module _ (P : Plan) (zeros : List Float) (ks : List ℕ) (w : World) where
-  abbrev leaves : Left
-  leaves = leftBy P w (rendered P zeros ks w)
+  abbrev leaves : After
+  leaves = afterBy P w (rendered P zeros ks w)
 
   abbrev Refused : Type 0
   Refused = leaves .ran .answer .number ≢ 0
 
-  pub went : passed (judged P zeros ks w) ≡ true → leaves ≡ leftBy P w (ended P ks w none)
+  pub went : passed (judged P zeros ks w) ≡ true → leaves ≡ afterBy P w (ended P ks w none)
   unfolding ended
-  went e = sym (left-done P zeros ks w e)
+  went e = sym (after-done P zeros ks w e)
 
   pub stopped : passed (judged P zeros ks w) ≡ false → Refused
-  unfolding rendered ended leftBy
+  unfolding rendered ended afterBy
   stopped e z = true≢false (sym (judged-passed P zeros ks w (go (judged P zeros ks w) e z)) ∙ e)
     where
-      go : (o : Option Verdict) → passed o ≡ false → leftBy P w (ended P ks w o) .ran .answer .number ≡ 0 → returned o .number ≡ 0
+      go : (o : Option Verdict) → passed o ≡ false → afterBy P w (ended P ks w o) .ran .answer .number ≡ 0 → returned o .number ≡ 0
       go none f n = absurd (true≢false f)
       go (some v) f n = n
 
@@ -143,11 +143,11 @@ module _ (P : Plan) (xs ys : List ℕ) (h : SameOrder (tied P) xs ys) where
           (λ c d m n t. swap-in greaterOf greater-assoc greater-comm t (activityOf d) (activityOf c)) s
 
   module _ (zeros : List Float) (w : World) (e : passed (judged P zeros xs w) ≡ true) where
-    same-world : runs (step P) xs w ≡ runs (step P) ys w
+    same-world : runs (staged P) xs w ≡ runs (staged P) ys w
     same-world =
-        let entered : Entered P xs w = passed-all P zeros xs w e .entered in
-        trace (step P) (λ (v : World). Unit {0}) (λ a v u. tt) (tied P) (λ k. k < P .patch .count)
-        (λ a b a-there b-there d f v u. step-swap P (fits (P .pools) _ _ _ (entered .pools)) a b d (untied P a b a-there b-there f) v) xs ys h
+        let entered : Admitted P xs w = passed-all P zeros xs w e .admitted in
+        trace (staged P) (λ (v : World). Unit {0}) (λ a v u. tt) (tied P) (λ k. k < P .patch .count)
+        (λ a b a-there b-there d f v u. staged-swap P (fits (P .pools) _ _ _ (entered .pools)) a b d (untied P a b a-there b-there f) v) xs ys h
         (stages-there P xs (entered .below)) w tt
 
     pub same-ended : ended P xs w none ≡ ended P ys w none
@@ -155,11 +155,11 @@ module _ (P : Plan) (xs ys : List ℕ) (h : SameOrder (tied P) xs ys) where
     same-ended = rw (same-activity, same-world)
 
   -- both are refused, or both leave the same
-  pub same-left : (zeros : List Float) (w : World)
+  pub same-after : (zeros : List Float) (w : World)
       → (Refused P zeros xs w × Refused P zeros ys w) ⊎ (leaves P zeros xs w ≡ leaves P zeros ys w)
-  same-left zeros w = go (passed (judged P zeros xs w)) refl (sym (same-judged zeros w))
+  same-after zeros w = go (passed (judged P zeros xs w)) refl (sym (same-judged zeros w))
     where
       go : (b : Bool) → passed (judged P zeros xs w) ≡ b → passed (judged P zeros ys w) ≡ passed (judged P zeros xs w)
           → (Refused P zeros xs w × Refused P zeros ys w) ⊎ (leaves P zeros xs w ≡ leaves P zeros ys w)
-      go true e f = inr (went P zeros xs w e ∙ ap (leftBy P w) (same-ended zeros w e) ∙ sym (went P zeros ys w (f ∙ e)))
+      go true e f = inr (went P zeros xs w e ∙ ap (afterBy P w) (same-ended zeros w e) ∙ sym (went P zeros ys w (f ∙ e)))
       go false e f = inl (stopped P zeros xs w e, stopped P zeros ys w (f ∙ e))

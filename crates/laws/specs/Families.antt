@@ -3,9 +3,9 @@
 use mathlib.Core.Path.{_≡_}
 use Rattle.microwave.specs.declared.filter.FilterType.{FilterType}
 use Rattle.microwave.specs.declared.filter.FilterType.the-variants as filter
-use Rattle.engine.specs.declared.stage.Kind.{Kind}
-use Rattle.engine.specs.declared.stage.Kind.the-variants.{Pass, Pow3, Clip, Filter, Oscillator, ModOscillator, Waveguide, RingModulator}
-use Rattle.engine.specs.declared.state.State.{State}
+use Rattle.stages.specs.declared.kind.Kind.{Kind}
+use Rattle.stages.specs.declared.kind.Kind.the-variants.{Pass, Pow3, Clip, Filter, Oscillator, ModOscillator, Waveguide, RingModulator}
+use Rattle.stages.specs.declared.state.State.{State}
 
 pub data Family : Type 0 where
   no-memory : Family

@@ -6,11 +6,26 @@ use Prim.Native.Nat.{ℕ}
 use Rattle.magnetron.specs.Buffers.{hits}
 use Rattle.magnetron.specs.declared.buffer.BufferIndex.{BufferIndex}
 use Rattle.magnetron.specs.declared.pool.Pools.{Pools}
-use Rattle.engine.specs.Run.{Plan, outsAt}
+use Rattle.engine.specs.Run.{Given, Plan, outsAt}
 
 -- an inner engine's pools, with the internal buffers of the outer one as its external ones
 abbrev pub innerPools : Pools → Pools → Pools
 innerPools inner outer = record { internal = inner .internal; external = outer .internal; reset = inner .reset }
+
+-- what an inner run is given, on those pools
+abbrev pub nestedIn : Pools → Given → Given
+nestedIn outer g = record {
+  patch = g .patch;
+  pools = innerPools (g .pools) outer;
+  states = g .states;
+  samples = g .samples;
+  width = g .width;
+  internal = g .internal;
+  external = g .external;
+  zeros = g .zeros;
+  rings = g .rings;
+  values = g .values;
+}
 
 -- the outer engine's pools once an inner one has left these
 abbrev pub outerPools : Pools → Pools → Pools

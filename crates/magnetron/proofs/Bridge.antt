@@ -16,8 +16,8 @@ use lib.Seq.{sets, sets-eq, take-all, take-suc, getD-drop}
 use lib.Ieee.{Float, nan, binary64, add, mul}
 use Rattle.numbers.specs.Constants.{zero64}
 use Rattle.magnetron.specs.Buffers.{heard, laid}
-use Rattle.magnetron.specs.Window.{tab, window, stateAt, machine}
-use Rattle.magnetron.specs.Mix.{from, mixed}
+use Rattle.magnetron.specs.Signals.{tab, window, stateAt, machine}
+use Rattle.magnetron.specs.Inside.Mix.{from, mixed}
 use Rattle.magnetron.specs.Single.{levelled}
 use Rattle.magnetron.proofs.Windows.{tab-length}
 

@@ -7,16 +7,15 @@ use native.Mathlib.Omega.{arith}
 use lib.ListN.{length}
 use lib.Ieee.{Float}
 use Rattle.order.specs.Checks.{unless, first, passed}
-use Rattle.magnetron.specs.Buffers.{pick}
+use Rattle.answers.proofs.Verdicts.{unless-passed, first-passed, Numbered, numbered-unless, numbered-first}
+use Rattle.magnetron.specs.Buffers.{pick, listOf}
 use Rattle.magnetron.specs.Pools.{marksIn}
 use Rattle.magnetron.specs.Checks.{windowOk, hasBuffer, allThere, noClash}
-use Rattle.magnetron.specs.Inputs.{listOf}
 use Rattle.magnetron.specs.Single.{Lent, lentOk, lengthOk, prepareFault, readFault, writeFault}
-use Rattle.magnetron.specs.Room.{Held, Writable}
+use Rattle.magnetron.specs.Inside.Room.{Held, Writable}
 use Rattle.magnetron.specs.declared.buffer.BufferIndex.{BufferIndex}
 use Rattle.magnetron.specs.declared.buffer.BufferIndex.the-variants.{External, Internal}
-use Rattle.magnetron.specs.declared.input.Inputs.{Inputs}
-use Rattle.magnetron.proofs.Verdicts.{unless-passed, first-passed, Numbered, numbered-unless, numbered-first}
+use Rattle.magnetron.specs.declared.inputs.Inputs.{Inputs}
 use Rattle.magnetron.proofs.Told.{held}
 
 module _ (l : Lent) where

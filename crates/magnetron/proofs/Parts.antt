@@ -15,7 +15,7 @@ use lib.Dec.{ltb}
 use lib.ListN.{length, set, take, drop, length-take}
 use lib.Seq.{sets, set-comm, take-set-le, drop-set-lt}
 use borrow.Author.Tests.{ltb-true, ltb-false}
-use Rattle.magnetron.specs.Inputs.{Apart}
+use Rattle.magnetron.specs.Inside.Source.{Apart}
 
 module _ {A : Type 0} where
   pub set-sets : (l vs : List A) (i j : ℕ) (a : A) → j < i → set (sets l i vs) j a ≡ sets (set l j a) i vs

@@ -17,7 +17,7 @@ use Rattle.numbers.specs.Constants.{zero64}
 use Rattle.order.specs.Checks.{passed}
 use Rattle.magnetron.specs.Buffers.{indexOf, Shape, Bank, Banks, Line, Write, capacityAt, bankAt, withLine, withLineAt, lineOf, lineAt, heard, laid, write, marksOf, staleAt}
 use Rattle.magnetron.specs.Pools.{preparedPools}
-use Rattle.magnetron.specs.Inputs.{Apart}
+use Rattle.magnetron.specs.Inside.Source.{Apart}
 use Rattle.magnetron.specs.Single.{Lent, prepareFault, preparedOf}
 use Rattle.magnetron.specs.declared.buffer.BufferIndex.{BufferIndex}
 use Rattle.magnetron.specs.declared.buffer.BufferIndex.the-variants.{Internal, External}

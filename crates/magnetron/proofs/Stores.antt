@@ -9,11 +9,11 @@ use Prim.Native.Nat.{ℕ, _≤_}
 use lib.Seq.{getD-set-other, set-comm}
 use borrow.Author.Tests.{eq-eqb}
 use Rattle.order.specs.Order.{Among}
+use Rattle.answers.proofs.Tests.{or-false-left, or-false-right}
 use Rattle.magnetron.specs.Buffers.{sameBuffer, hits, meets, Shape, Bank, Banks, Line, capacityAt, lineOf, withLine, lineAt, withLineAt, staleAt, cleared}
 use Rattle.magnetron.specs.declared.buffer.Marks.{Marks}
 use Rattle.magnetron.specs.declared.buffer.BufferIndex.{BufferIndex}
 use Rattle.magnetron.specs.declared.buffer.BufferIndex.the-variants.{Internal, External}
-use Rattle.magnetron.proofs.Tests.{or-false-left, or-false-right}
 use Rattle.magnetron.proofs.Parts.{read-apart, store-apart, buffers-apart}
 
 -- ---- one pool

@@ -21,21 +21,21 @@ use borrow.Author.Tests.{leb-true, ltb-true, eqb-true, ne-eqb}
 use Rattle.numbers.specs.Constants.{zero64}
 use Rattle.numbers.specs.Zeros.{allPlusZero}
 use Rattle.order.specs.Order.{Among}
+use Rattle.answers.proofs.Tests.{and-left, and-right, or-other}
 use Rattle.magnetron.specs.Buffers.{indexOf, pick, samePool, sameBuffer, Shape, capacityAt, bankAt, marksAt, lineAt, lineOf, withLineAt, withLine, heard, laid, write, staleAt, cleared, hits}
 use Rattle.magnetron.specs.Pools.{poolAt, baseOf, shapeOf, banksOf, sided}
 use Rattle.magnetron.specs.Checks.{poolOk, shapeOk, windowOk, hasBuffer, allThere, noClash}
-use Rattle.magnetron.specs.Inputs.{signalOf, sourceOf, Apart, Clear}
-use Rattle.magnetron.specs.Window.{tab, window}
-use Rattle.magnetron.specs.Mix.{mixed, from}
+use Rattle.magnetron.specs.Inside.Source.{signalOf, sourceOf, Apart, Clear}
+use Rattle.magnetron.specs.Signals.{tab, window}
+use Rattle.magnetron.specs.Inside.Mix.{mixed, from}
 use Rattle.magnetron.specs.Single.{levelled}
-use Rattle.magnetron.specs.Room.{Bounds, Held}
+use Rattle.magnetron.specs.Inside.Room.{Bounds, Held}
 use Rattle.magnetron.specs.declared.buffer.Marks.{Marks}
 use Rattle.magnetron.specs.declared.buffer.BufferIndex.{BufferIndex}
 use Rattle.magnetron.specs.declared.buffer.BufferIndex.the-variants.{External, Internal}
 use Rattle.magnetron.specs.declared.pool.Pool.{Pool}
 use Rattle.magnetron.specs.declared.pool.Pools.{Pools}
-use Rattle.magnetron.specs.declared.input.Input.the-variants.{Zeros, Own, Other}
-use Rattle.magnetron.proofs.Tests.{and-left, and-right, or-other}
+use Rattle.magnetron.specs.declared.source.Source.the-variants.{Zeros, Own, Other}
 use Rattle.magnetron.proofs.Parts.{product-le, within, apart-or-empty}
 use Rattle.magnetron.proofs.Stores.{same-buffer-refl}
 use Rattle.magnetron.proofs.Windows.{tab-at}

@@ -1,8 +1,7 @@
--- The laws of `window`: what a loop leaves that works a part of one list out anew, a store a turn, whatever the signal.
+-- The laws of `window`: what a loop leaves that works a part of one list out anew, a store each time round, whatever the signal.
 --     tab-length, tab-at, tab-ext  the first n samples of a signal: how many, and which
 --     window-none, window-more  with no sample stored it is the list; a store of sample i at base + i takes i samples to i + 1
---     window-ext                two signals that agree on the first n samples leave the same
---     turn                      a turn of such a loop, from what the invariant says to what it says next
+--     window-next               such a store, of a list that is known to be so far
 --     read-after, read-before   what such a loop reads of its own list, ahead of the store and before the part: what was there at first
 -- Assumes nothing.
 use mathlib.Core.Path.{_≡_, refl, sym, ap, _∙_}
@@ -14,7 +13,7 @@ use native.Mathlib.Numerals.{add-one}
 use native.Mathlib.Omega.{arith}
 use lib.ListN.{length, getD, take, drop, set, length-append, take-append-drop, List·getD-append}
 use lib.Seq.{length-take-le, drop-cons, set-at, getD-at, getD-append-add, getD-take, getD-drop}
-use Rattle.magnetron.specs.Window.{tab, window}
+use Rattle.magnetron.specs.Signals.{tab, window}
 
 module _ {A : Type 0} where
   pub tab-length : (n : ℕ) (g : ℕ → A) → length (tab n g) ≡ n
@@ -73,12 +72,8 @@ module _ {A : Type 0} where
         ∙ getD-drop (base + n) d j z
         ∙ ap (λ (m : ℕ). getD d m z) (omega arith)
 
-    pub window-ext : (n : ℕ) (g h : ℕ → A) → ((i : ℕ) → i < n → g i ≡ h i) → window d base n g ≡ window d base n h
-    unfolding window
-    window-ext n g h e = ap (λ (l : List A). take base d ++ (l ++ drop (base + n) d)) (tab-ext n g h e)
-
-    pub turn : (g : ℕ → A) (i : ℕ) (l : List A) (v : A) → base + i < length d → l ≡ window d base i g → v ≡ g i → set l (base + i) v ≡ window d base (i + 1) g
-    turn g i l v h p q = rw (p, q) (window-more i g h)
+    pub window-next : (g : ℕ → A) (i : ℕ) (l : List A) (v : A) → base + i < length d → l ≡ window d base i g → v ≡ g i → set l (base + i) v ≡ window d base (i + 1) g
+    window-next g i l v h p q = rw (p, q) (window-more i g h)
 
     pub read-after : (g : ℕ → A) (i : ℕ) (l : List A) (k : ℕ) (z : A) → base ≤ length d → base + i ≤ k → l ≡ window d base i g → getD l k z ≡ getD d k z
     read-after g i l k z fits h p = rw p (window-after i g k z fits h)

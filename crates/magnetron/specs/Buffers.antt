@@ -9,11 +9,13 @@ use lib.ListN.{getD, set, take, drop, replicate}
 use lib.Seq.{sets}
 use lib.Ieee.{Float, binary64, add}
 use Rattle.numbers.specs.Constants.{zero64}
-use Rattle.magnetron.specs.declared.stage.StageActivity.{StageActivity}
-use Rattle.magnetron.specs.declared.stage.StageActivity.the-variants as activity
+use Rattle.answers.specs.declared.activity.StageActivity.{StageActivity}
+use Rattle.answers.specs.declared.activity.StageActivity.the-variants as activity
 use Rattle.magnetron.specs.declared.buffer.Marks.{Marks}
 use Rattle.magnetron.specs.declared.buffer.BufferIndex.{BufferIndex}
 use Rattle.magnetron.specs.declared.buffer.BufferIndex.the-variants.{External, Internal}
+use Rattle.magnetron.specs.declared.inputs.Inputs.{Inputs}
+use Rattle.magnetron.specs.declared.inputs.Inputs.the-variants.{Nothing, One, Two}
 
 -- ---- a buffer is a place in one of two pools
 
@@ -122,6 +124,12 @@ cleared b m =
     record { internal = pick b after (m .internal); external = pick b (m .external) after }
 
 -- ---- which buffers are named
+
+-- the buffers that are read
+abbrev pub listOf : Inputs → List BufferIndex
+listOf Nothing = []
+listOf (One a) = a ∷ []
+listOf (Two a b) = a ∷ b ∷ []
 
 abbrev pub hits : BufferIndex → List BufferIndex → Bool
 hits b [] = false

@@ -1,7 +1,6 @@
 -- The checks of document 01 that look at pools and buffers: 1, 2, 5 and 7. Each is the test that a refusal's words deny. Assumes nothing.
 use mathlib.Core.Bool.{Bool, true, not, _&&_, _||_}
 use mathlib.Core.List.{List, [], _∷_}
-use mathlib.Core.Option.{Option, none, some}
 use Prim.Native.Nat.{ℕ, _*_}
 use lib.Dec.{leb, ltb, eqb}
 use lib.ListN.{length}
@@ -12,7 +11,6 @@ use Rattle.magnetron.specs.Pools.{poolAt}
 use Rattle.magnetron.specs.declared.buffer.Marks.{Marks}
 use Rattle.magnetron.specs.declared.buffer.BufferIndex.{BufferIndex}
 use Rattle.magnetron.specs.declared.pool.Pools.{Pools}
-use Rattle.magnetron.specs.declared.check.Verdict.{Verdict}
 
 -- 1, of one pool: "At most 16 .. buffers; capacity 0 to 4,096 samples, one capacity per pool; a pool's slice holds count times capacity."
 unfoldable pub poolOk : ℕ → ℕ → ℕ → Bool
@@ -40,8 +38,3 @@ allThere p (b ∷ bs) = hasBuffer p b && allThere p bs
 -- 7 refuses where "the window isn't empty and a stage's output is also one of its inputs and is not stale at its turn"
 abbrev pub noClash : ℕ → List BufferIndex → List BufferIndex → Marks → Bool
 noClash n ins outs m = eqb n 0 || not (clash ins outs m)
-
--- what checks answer that name no stage: 0 where none refuses
-unfoldable pub verdictOf : Option ℕ → Verdict
-verdictOf none = record { number = 0; stage = 32 }
-verdictOf (some r) = record { number = r; stage = 32 }

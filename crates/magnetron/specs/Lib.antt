@@ -1,12 +1,8 @@
--- What a reader must believe of buffers. `Buffers`, `Pools` and `Checks` have the words that a run shares with the single operations, `Single` has
--- those operations. `Window`, `Mix` and `Inputs` are the words of loops, which the laws of
--- proofs/ turn into those of `Buffers`; `Room` says as facts what passed checks tell.
-pub mod Activity
+-- What a reader must believe of buffers. `Signals`, `Buffers`, `Pools` and `Checks` have the words that a run shares with the single operations, `Single` has
+-- those operations. `Inside` has the words of loops and private functions, which the laws of proofs/ turn into those of `Buffers`.
+pub mod Signals
 pub mod Buffers
 pub mod Pools
 pub mod Checks
 pub mod Single
-pub mod Window
-pub mod Mix
-pub mod Inputs
-pub mod Room
+pub mod Inside

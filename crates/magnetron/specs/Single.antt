@@ -10,19 +10,19 @@ use lib.Ieee.{Float, binary64, mul}
 use Rattle.numbers.specs.Constants.{zero64, one64}
 use Rattle.numbers.specs.Outcome.{Outcome, outcome}
 use Rattle.order.specs.Checks.{unless, first, passed}
-use Rattle.magnetron.specs.Buffers.{Shape, Banks, lineAt, heard, write, marksOf, activityOf}
+use Rattle.answers.specs.Verdict.{verdictOf}
+use Rattle.answers.specs.Answer.{refusedAnswer, acceptedAnswer}
+use Rattle.answers.specs.declared.verdict.Verdict.{Verdict}
+use Rattle.magnetron.specs.Buffers.{Shape, Banks, lineAt, heard, write, marksOf, activityOf, listOf}
 use Rattle.magnetron.specs.Pools.{marksIn, remarked, shapeOf, banksOf, freshPool, preparedPools}
-use Rattle.magnetron.specs.Checks.{poolOk, shapeOk, windowOk, hasBuffer, allThere, noClash, verdictOf}
-use Rattle.magnetron.specs.Inputs.{listOf}
-use Rattle.magnetron.specs.declared.stage.StageActivity.the-variants.{Exhausted}
+use Rattle.magnetron.specs.Checks.{poolOk, shapeOk, windowOk, hasBuffer, allThere, noClash}
 use Rattle.magnetron.specs.declared.buffer.BufferIndex.{BufferIndex}
 use Rattle.magnetron.specs.declared.buffer.Marks.{Marks}
 use Rattle.magnetron.specs.declared.pool.Pools.{Pools}
-use Rattle.magnetron.specs.declared.pool.Made.{Made}
-use Rattle.magnetron.specs.declared.pool.Prepared.{Prepared}
-use Rattle.magnetron.specs.declared.check.Verdict.{Verdict}
-use Rattle.magnetron.specs.declared.input.Inputs.{Inputs}
-use Rattle.magnetron.specs.declared.input.Inputs.the-variants.{Nothing, One, Two}
+use Rattle.magnetron.specs.declared.prepare.Made.{Made}
+use Rattle.magnetron.specs.declared.prepare.Prepared.{Prepared}
+use Rattle.magnetron.specs.declared.inputs.Inputs.{Inputs}
+use Rattle.magnetron.specs.declared.inputs.Inputs.the-variants.{Nothing, One, Two}
 use Rattle.magnetron.specs.declared.write.OutLevel.{OutLevel}
 use Rattle.magnetron.specs.declared.write.OutLevel.the-variants.{Absent, Level}
 use Rattle.magnetron.specs.declared.write.Wrote.{Wrote}
@@ -111,26 +111,26 @@ abbrev pub putInto : Shape → Inputs → List Float → BufferIndex → Float �
 putInto h inputs values output level p = write h (record { to = output; values = levelled level (valuesOf h inputs values p) }) p
 
 -- all that a write leaves: its answer with the pools' records, and both pools' samples
-pub record Left : Type 0 where
+pub record AfterWrite : Type 0 where
   pub wrote : Wrote
   pub internal : List Float
   pub external : List Float
 
-abbrev pub left : Wrote → List Float → List Float → Left
-left w internal external = record { wrote = w; internal = internal; external = external }
+abbrev pub afterWrite : Wrote → List Float → List Float → AfterWrite
+afterWrite w internal external = record { wrote = w; internal = internal; external = external }
 
 -- it "answers its output's activity"
 abbrev pub writtenTo : BufferIndex → Pools → Marks → Wrote
-writtenTo output p m = record { answer = record { number = 0; stage = 32; activity = activityOf output }; pools = remarked p m }
+writtenTo output p m = record { answer = acceptedAnswer (activityOf output); pools = remarked p m }
 
 abbrev pub refusedBy : Verdict → Pools → Wrote
-refusedBy v p = record { answer = record { number = v .number; stage = v .stage; activity = Exhausted }; pools = p }
+refusedBy v p = record { answer = refusedAnswer v; pools = p }
 
 -- A refusal changes nothing.
-unfoldable pub writeOf : Lent → Inputs → List Float → BufferIndex → OutLevel → Left
+unfoldable pub writeOf : Lent → Inputs → List Float → BufferIndex → OutLevel → AfterWrite
 writeOf l inputs values output level =
     let fault : Option ℕ = writeFault l inputs values output in
     let after : Banks = putInto (shapeIn l) inputs values output (levelOf level) (banksIn l) in
     cond (passed fault)
-    (left (writtenTo output (l .pools) (marksOf after)) (after .internal .samples) (after .external .samples))
-    (left (refusedBy (verdictOf fault) (l .pools)) (l .internal) (l .external))
+    (afterWrite (writtenTo output (l .pools) (marksOf after)) (after .internal .samples) (after .external .samples))
+    (afterWrite (refusedBy (verdictOf fault) (l .pools)) (l .internal) (l .external))

@@ -1,5 +1,5 @@
 // Buffers by index, the activity of what writes one, and the stale marks.
-use crate::stage::StageActivity;
+use answers::activity::StageActivity;
 ghost use mathlib.Core.Path.{_≡_};
 ghost use Rattle.magnetron.specs.Buffers.{bufferOf, sameBuffer, activityOf, staleAt, cleared};
 
@@ -72,7 +72,7 @@ impl Marks {
     }
 
     // The marks once a buffer has been written; one that has no mark changes nothing.
-    pub fn written(mut self, b: BufferIndex) -> Marks
+    pub fn clear(mut self, b: BufferIndex) -> Marks
         ensures { λ r. ⌜ r ≡ cleared b self ⌝ }
     {
         match b {

@@ -1,50 +1,18 @@
 // The checks of pools and of the buffers that are named, each a test by itself: 1, 2, 5 and 7.
 use crate::buffer::BufferIndex;
 use crate::buffer::Marks;
-use crate::buffer::same_buffer;
-use crate::input::Inputs;
+use crate::inputs::Inputs;
+use crate::inputs::is_input;
 use crate::pool::Pools;
+use answers::verdict::Verdict;
+use answers::verdict::refusal;
+use answers::verdict::refusal_unless;
 ghost use mathlib.Core.Path.{_≡_};
 ghost use mathlib.Core.List.{_∷_, [], _++_};
-ghost use mathlib.Core.Option.{none, some};
-ghost use Rattle.order.specs.Checks.{unless};
-ghost use Rattle.magnetron.specs.Buffers.{hits};
-ghost use Rattle.magnetron.specs.Checks.{poolOk, shapeOk, windowOk, hasBuffer, allThere, noClash, verdictOf};
-ghost use Rattle.magnetron.specs.Inputs.{listOf};
+ghost use Rattle.answers.specs.Verdict.{verdictOf};
+ghost use Rattle.magnetron.specs.Buffers.{listOf};
+ghost use Rattle.magnetron.specs.Checks.{poolOk, shapeOk, windowOk, hasBuffer, allThere, noClash};
 ghost use Rattle.magnetron.specs.Single.{lent, prepareFault};
-
-// 0 with stage 32, or a refusal's number and its stage.
-#[repr(C)]
-pub struct Verdict {
-    pub number: usize,
-    pub stage: usize,
-}
-
-pub fn done() -> Verdict
-    ensures { λ r. ⌜ r ≡ verdictOf none ⌝ }
-{
-    Verdict {
-        number: 0,
-        stage: 32,
-    }
-}
-
-// A refusal that names no stage.
-pub fn refusal(number: usize) -> Verdict
-    ensures { λ r. ⌜ r ≡ verdictOf (some number) ⌝ }
-{
-    Verdict { number, stage: 32 }
-}
-
-// A refusal with the number where the test fails.
-pub(crate) fn refusal_unless(passed: bool, number: usize) -> Verdict
-    ensures { λ r. ⌜ r ≡ verdictOf (unless passed number) ⌝ }
-{
-    if passed {
-        return done();
-    }
-    refusal(number)
-}
 
 // Whether one pool keeps its bounds: at most 16 buffers of at most 4,096 samples, in a slice of that length.
 pub fn pool_ok(count: usize, capacity: usize, len: usize) -> bool
@@ -120,26 +88,6 @@ pub fn all_there(pools: Pools, inputs: Inputs, output: BufferIndex) -> bool
                 return false;
             }
             return has(pools, output);
-        }
-    }
-}
-
-// Whether a buffer is one of the inputs.
-pub fn is_input(b: BufferIndex, inputs: Inputs) -> bool
-    ensures { λ r. ⌜ r ≡ hits b (listOf inputs) ⌝ }
-{
-    match inputs {
-        Inputs::Nothing => {
-            return false;
-        }
-        Inputs::One(first) => {
-            return same_buffer(b, first);
-        }
-        Inputs::Two(first, second) => {
-            if same_buffer(b, first) {
-                return true;
-            }
-            return same_buffer(b, second);
         }
     }
 }

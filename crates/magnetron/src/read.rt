@@ -1,13 +1,13 @@
 // A single read: a part of a pool or of the lent zeros, chosen by the stale mark, and its check by itself.
 use crate::buffer::BufferIndex;
-use crate::check::Verdict;
 use crate::check::check_prepare;
 use crate::check::has;
-use crate::check::refusal_unless;
 use crate::pool::Pools;
+use answers::verdict::Verdict;
+use answers::verdict::refusal_unless;
 ghost use mathlib.Core.Path.{_≡_};
+ghost use Rattle.answers.specs.Verdict.{verdictOf};
 ghost use Rattle.magnetron.specs.Buffers.{pick};
-ghost use Rattle.magnetron.specs.Checks.{verdictOf};
 ghost use Rattle.magnetron.specs.Single.{lent, readFault, readOf};
 
 // Checks 1, 2, 5 of a single read.

@@ -3,6 +3,7 @@
 use mathlib.Core.Path.{sym, ap, _∙_}
 use denote.Ref.{now}
 use Rattle.numbers.specs.Outcome.{Answer, Determined, as-follows, by-definition, outcome, both}
+use Rattle.util.specs.Interaction.{step}
 use Rattle.microwave.specs.Waveguide.{strung}
 use Rattle.microwave.proofs.Asked.{asked, as-asked}
 use Rattle.microwave.proofs.parameter.lookup.Reads as lookup
@@ -23,6 +24,7 @@ use Rattle.microwave.proofs.filter.Filter.coefficients.Reads as coeffic
 use Rattle.microwave.proofs.filter.OnePoleMemory.step.Reads as one-pole-step
 use Rattle.microwave.proofs.filter.Biquad.step.Reads as biquad-step
 use Rattle.microwave.proofs.waveguide.guide_of.Reads as guide-of
+use Rattle.microwave.proofs.waveguide.StringMemory.step.Reads as string-step
 use Rattle.microwave.proofs.window.plain_window.Reads as plain-window
 use Rattle.microwave.proofs.window.oscillator_window.Reads as oscillator-window
 use Rattle.microwave.proofs.window.one_pole_window.Reads as one-pole-window
@@ -41,8 +43,8 @@ oscillator-determined = (by-definition, by-definition, by-definition, by-definit
 pub filter-determined : Answer asks.Post × Answer with-numbers.Post × Answer coefficients.Post × Answer one-pole-step.Post × Answer biquad-step.Post
 filter-determined = (as-follows (λ κs a r s p. sym (as-asked r) ∙ ap asked p), by-definition, by-definition, by-definition, by-definition)
 
-pub waveguide-determined : Answer guide-of.Post
-waveguide-determined = by-definition
+pub waveguide-determined : Answer guide-of.Post × Determined (λ r s. step (strung (r .memory) (now (s .1 .1 .0))) (r .sample)) string-step.Post
+waveguide-determined = (by-definition, by-definition)
 
 pub window-determined : Determined (λ r s. now (s .1 .0)) plain-window.Post × Determined (λ r s. outcome r (now (s .1 .1 .0))) oscillator-window.Post
     × Determined (λ r s. outcome r (now (s .1 .1 .0))) one-pole-window.Post × Determined (λ r s. outcome r (now (s .1 .1 .0))) biquad-window.Post

@@ -1,5 +1,5 @@
 -- What is proved of `microwave` beside each function's contract: the edges that the requirements remark on, the filters' formulas against the Audio EQ Cookbook,
--- that each contract determines its outcome, and the laws that loops and the crates above cite.
+-- that each contract determines its outcome, and the laws that the crates above cite.
 pub mod Asked
 pub mod Refused
 pub mod ClipEdges
@@ -9,5 +9,4 @@ pub mod Fields
 pub mod Cookbook
 pub mod Three
 pub mod Strings
-pub mod Turns
 pub mod Determined

@@ -4,7 +4,7 @@ use mathlib.Core.List.{List, [], _∷_, foldl}
 use lib.Ieee.{Float, nan, neg, add, rem, lt}
 use Rattle.numbers.specs.Constants.{one64}
 use Rattle.numbers.specs.Small.{remEuclidOf}
-use Rattle.microwave.specs.Oscillator.{waveOf, entered, bentOf, oscillatorNext}
+use Rattle.microwave.specs.Oscillator.{waveOf, phaseSaved, bentOf, oscillatorNext}
 use Rattle.microwave.specs.declared.oscillator.OscillatorType.the-variants.{Square}
 use Rattle.microwave.specs.declared.oscillator.Driven.{Driven}
 use Rattle.microwave.specs.declared.oscillator.Driven.the-variants.{Plain, ByPhase, ByFrequency}
@@ -36,10 +36,10 @@ nan-phase-stays o saved [] = refl
 nan-phase-stays o saved (s ∷ ss) = ap (λ p. after o p ss .phase) (next-nan o saved s) ∙ nan-phase-stays o saved ss
 
 -- "saved = phase": whatever the window's length, and for an empty one too; its phase stays where it was
-pub saved-moves : (o : Oscillator) (p : Phases) (phase : Float) (inputs : List Float) → after o (entered p phase) inputs .saved ≡ phase
+pub saved-moves : (o : Oscillator) (p : Phases) (phase : Float) (inputs : List Float) → after o (phaseSaved p phase) inputs .saved ≡ phase
 unfolding oscillatorNext
 saved-moves o p phase [] = refl
-saved-moves o p phase (s ∷ ss) = saved-moves o (oscillatorNext o (entered p phase) s) phase ss
+saved-moves o p phase (s ∷ ss) = saved-moves o (oscillatorNext o (phaseSaved p phase) s) phase ss
 
-pub phase-rests : (o : Oscillator) (p : Phases) (phase : Float) → after o (entered p phase) [] .phase ≡ p .phase
+pub phase-rests : (o : Oscillator) (p : Phases) (phase : Float) → after o (phaseSaved p phase) [] .phase ≡ p .phase
 phase-rests o p phase = refl

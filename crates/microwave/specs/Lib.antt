@@ -1,4 +1,4 @@
--- The definitions that the contracts of `microwave` cite, and the Audio EQ Cookbook's formulas.
+-- The definitions that the contracts of `microwave` cite, and the Audio EQ Cookbook's formulas. `Inside` has the words of the loops over a window.
 pub mod Parameter
 pub mod Plain
 pub mod Oscillator
@@ -8,4 +8,4 @@ pub mod OnePole
 pub mod Filter
 pub mod Cookbook
 pub mod Waveguide
-pub mod Window
+pub mod Inside

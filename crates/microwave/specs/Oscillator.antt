@@ -26,8 +26,8 @@ abbrev pub dPhaseOf : Float → Float → Float → Float → ℕ → Float
 dPhaseOf frequency phase saved w n = frequency ⊗ w ⊕ (phase ⊖ saved) ⊘ ofInt binary64 (pos n)
 
 -- "saved = phase"
-abbrev pub entered : Phases → Float → Phases
-entered p phase = record { phase = p .phase; saved = phase }
+abbrev pub phaseSaved : Phases → Float → Phases
+phaseSaved p phase = record { phase = p .phase; saved = phase }
 
 -- ---- one sample
 

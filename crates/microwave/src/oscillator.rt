@@ -6,7 +6,7 @@ use numbers::small::fract;
 use numbers::small::rem_euclid_one;
 use numbers::turns::sine_turns;
 ghost use mathlib.Core.Path.{_≡_};
-ghost use Rattle.microwave.specs.Oscillator.{drivenBy, waveOf, dPhaseOf, entered, placeOf, bentOf, oscillated};
+ghost use Rattle.microwave.specs.Oscillator.{drivenBy, waveOf, dPhaseOf, phaseSaved, placeOf, bentOf, oscillated};
 
 pub enum OscillatorType {
     Sin,
@@ -122,7 +122,7 @@ impl Driven {
 impl Phases {
     // The memory at the start of a window, an empty one too.
     pub fn enter(mut self, to_phase: f64) -> Phases
-        ensures { λ r. ⌜ r ≡ entered self «to_phase» ⌝ }
+        ensures { λ r. ⌜ r ≡ phaseSaved self «to_phase» ⌝ }
     {
         self.saved = to_phase;
         self

@@ -44,9 +44,9 @@ pub struct Guide {
 }
 
 // The memory after a sample, and the sample.
-pub(crate) struct StringStepped {
-    pub(crate) memory: StringMemory,
-    pub(crate) sample: f64,
+pub struct StringStepped {
+    pub memory: StringMemory,
+    pub sample: f64,
 }
 
 impl Reflectance {
@@ -131,7 +131,7 @@ impl Guide {
 
 impl StringMemory {
     // One sample, by the comb.
-    pub(crate) fn step(self, k: Guide, ring: &mut [f64], input: f64) -> StringStepped
+    pub fn step(self, k: Guide, ring: &mut [f64], input: f64) -> StringStepped
         requires { ⌜ InRing k (strung self (now ring)) ⌝ }
         ensures { λ r. ⌜ step (strung (r .memory) (now (ring .exit))) (r .sample) ≡ stringStep k (strung self (now (ring .entry))) input ⌝ }
     {

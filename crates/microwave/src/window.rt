@@ -1,5 +1,5 @@
 // One loop per sort of machine over a window: each sample is read, worked by the machine and mixed into the output.
-// Rests on `fetch` and `mix` of magnetron. The loops run once the checks have passed: they ask for the places that the checks have looked at.
+// Rests on `fetch` and `write_sample` of magnetron. The loops run once the checks have passed: they ask for the places that the checks have looked at.
 use crate::filter::Biquad;
 use crate::filter::Coefficients;
 use crate::filter::OnePole;
@@ -9,44 +9,27 @@ use crate::oscillator::Phases;
 use crate::plain::Shape;
 use crate::waveguide::Guide;
 use crate::waveguide::StringMemory;
-use magnetron::input::Input;
-use magnetron::input::fetch;
-use magnetron::write::mix;
+use magnetron::output::Target;
+use magnetron::output::write_sample;
+use magnetron::source::Source;
+use magnetron::source::fetch;
 ghost use mathlib.Core.Path.{_≡_};
-ghost use Prim.Native.Nat.{_+_, _<_};
-ghost use lib.ListN.{length};
-ghost use Rattle.magnetron.specs.Inputs.{signalOf};
+ghost use Rattle.magnetron.specs.Inside.Source.{signalOf};
+ghost use Rattle.magnetron.specs.Inside.Target.{LiesIn, ClearOf, written};
 ghost use Rattle.microwave.specs.Plain.{shapedOf};
 ghost use Rattle.microwave.specs.Oscillator.{oscillatorNext, oscillatorOut};
 ghost use Rattle.microwave.specs.OnePole.{onePoleNext, onePoleOut};
 ghost use Rattle.microwave.specs.Filter.{biquadNext, biquadOut};
 ghost use Rattle.microwave.specs.Waveguide.{strung, InRing, stringNext, stringOut};
-ghost use Rattle.microwave.specs.Window.{LiesIn, ClearOf, sampled, written, Windowed};
-
-// Where a loop writes: that many samples from base on, stored where the output is stale and added where it is not, each times the level first.
-pub struct Target {
-    pub base: usize,
-    pub samples: usize,
-    pub stale: bool,
-    pub level: f64,
-}
-
-// Writes sample i of a window.
-fn write_sample(own: &mut [f64], target: Target, i: usize, sample: f64)
-    requires { ⌜ target .base + i < length (now own) ⌝ }
-    ensures { λ _. ⌜ now (own .exit) ≡ sampled (now (own .entry)) target i sample ⌝ }
-{
-    let at = target.base + i;
-    own[at] = mix(target.stale, target.level, own[at], sample);
-}
+ghost use Rattle.microwave.specs.Inside.{Windowed};
 
 // A shape of two inputs. Where it reads one, the second may be anything that lies clear.
 pub fn plain_window(
     shape: Shape,
     own: &mut [f64],
     other: &[f64],
-    first: Input,
-    second: Input,
+    first: Source,
+    second: Source,
     target: Target,
 )
     requires { ⌜ (LiesIn target (now own)) × (ClearOf first (now own) (now other) target) × (ClearOf second (now own) (now other) target) ⌝ }
@@ -68,7 +51,7 @@ pub fn oscillator_window(
     mut phases: Phases,
     own: &mut [f64],
     other: &[f64],
-    input: Input,
+    input: Source,
     target: Target,
 ) -> Phases
     requires { ⌜ (LiesIn target (now own)) × (ClearOf input (now own) (now other) target) ⌝ }
@@ -91,7 +74,7 @@ pub fn one_pole_window(
     mut memory: OnePoleMemory,
     own: &mut [f64],
     other: &[f64],
-    input: Input,
+    input: Source,
     target: Target,
 ) -> OnePoleMemory
     requires { ⌜ (LiesIn target (now own)) × (ClearOf input (now own) (now other) target) ⌝ }
@@ -114,7 +97,7 @@ fn biquad_loop(
     mut memory: Biquad,
     own: &mut [f64],
     other: &[f64],
-    input: Input,
+    input: Source,
     target: Target,
 ) -> Biquad
     requires { ⌜ (LiesIn target (now own)) × (ClearOf input (now own) (now other) target) ⌝ }
@@ -137,16 +120,16 @@ pub fn biquad_window(
     memory: Biquad,
     own: &mut [f64],
     other: &[f64],
-    input: Input,
+    input: Source,
     target: Target,
 ) -> Biquad
     requires { ⌜ (LiesIn target (now own)) × (ClearOf input (now own) (now other) target) ⌝ }
     ensures { λ r. ⌜ Windowed (biquadNext k) (biquadOut k) memory (signalOf input (now (own .entry)) (now (other .entry))) (now (own .entry)) target r (now (own .exit)) ⌝ }
 {
     match input {
-        Input::Zeros => biquad_loop(k, memory, own, other, Input::Zeros, target),
-        Input::Own(at) => biquad_loop(k, memory, own, other, Input::Own(at), target),
-        Input::Other(at) => biquad_loop(k, memory, own, other, Input::Other(at), target),
+        Source::Zeros => biquad_loop(k, memory, own, other, Source::Zeros, target),
+        Source::Own(at) => biquad_loop(k, memory, own, other, Source::Own(at), target),
+        Source::Other(at) => biquad_loop(k, memory, own, other, Source::Other(at), target),
     }
 }
 
@@ -157,7 +140,7 @@ fn string_loop(
     ring: &mut [f64],
     own: &mut [f64],
     other: &[f64],
-    input: Input,
+    input: Source,
     target: Target,
 ) -> StringMemory
     requires { ⌜ (LiesIn target (now own)) × (ClearOf input (now own) (now other) target) ⌝ }
@@ -183,7 +166,7 @@ pub fn string_window(
     ring: &mut [f64],
     own: &mut [f64],
     other: &[f64],
-    input: Input,
+    input: Source,
     target: Target,
 ) -> StringMemory
     requires { ⌜ (LiesIn target (now own)) × (ClearOf input (now own) (now other) target) ⌝ }
@@ -192,8 +175,8 @@ pub fn string_window(
         (strung r (now (ring .exit))) (now (own .exit)) ⌝ }
 {
     match input {
-        Input::Zeros => string_loop(k, memory, ring, own, other, Input::Zeros, target),
-        Input::Own(at) => string_loop(k, memory, ring, own, other, Input::Own(at), target),
-        Input::Other(at) => string_loop(k, memory, ring, own, other, Input::Other(at), target),
+        Source::Zeros => string_loop(k, memory, ring, own, other, Source::Zeros, target),
+        Source::Own(at) => string_loop(k, memory, ring, own, other, Source::Own(at), target),
+        Source::Other(at) => string_loop(k, memory, ring, own, other, Source::Other(at), target),
     }
 }

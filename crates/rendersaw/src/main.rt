@@ -1,17 +1,17 @@
 // Renders one window of a sawtooth and writes its samples in hex: frequency 1, eight samples of an eighth of a second, into internal buffer 0.
 // Rests on `magnetron` for the pools and on `engine` for the run; what it writes is compared with document 01's listing.
 use engine::run::run;
-use engine::stage::Kind;
-use engine::stage::Patch;
-use engine::stage::Stage;
-use engine::state::new_states;
 use magnetron::buffer::BufferIndex;
 use magnetron::pool::Pools;
-use magnetron::pool::new_pool;
-use magnetron::pool::prepare;
+use magnetron::prepare::new_pool;
+use magnetron::prepare::prepare;
 use microwave::oscillator::OscillatorSpec;
 use microwave::oscillator::OscillatorType;
 use microwave::parameter::Parameter;
+use stages::kind::Kind;
+use stages::patch::Patch;
+use stages::stage::Stage;
+use stages::state::new_states;
 
 // A sawtooth of one turn a second into internal buffer 0.
 fn sawtooth() -> Stage {

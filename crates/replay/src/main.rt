@@ -1,17 +1,11 @@
-// Words in, words out: reads cases on standard input until it ends, and writes their answers on standard output. FORMAT.md beside this
-// folder defines both. Rests on `stream` for the words; sorts 1 and 2 are answered here, the others by `parts`.
-mod function;
-mod functions;
-mod patch;
-mod run;
+// For tests. Words in, words out: reads cases on standard input until it ends, and writes their answers on standard output. FORMAT.md beside this
+// folder defines both. Rests on `stream` for the words; sort 1 is answered here, the others by `operations`.
 mod session;
-mod setting;
-mod states;
 mod window;
 
-use parts::pools::Cells;
-use parts::pools::Samples;
-use parts::pools::Zeros;
+use operations::pools::Cells;
+use operations::pools::Samples;
+use operations::pools::Zeros;
 use stream::place::Buffer;
 use stream::place::Place;
 
@@ -75,9 +69,9 @@ fn answer_next(
     let sort = next.word;
     match sort {
         1 => session::answer(after, input, output, internal, external, zeros, rings),
-        2 => functions::answer(after, input, output, internal),
-        3..=7 => parts::device::answer(after, sort, input, output, rings),
-        8..=9 => parts::single::answer(
+        2 => operations::functions::answer_case(after, input, output, internal),
+        3..=7 => operations::device::answer(after, sort, input, output, rings),
+        8..=9 => operations::single::answer(
             after,
             sort,
             input,

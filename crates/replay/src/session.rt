@@ -1,84 +1,63 @@
 // Sort 1: a session of runs. Pools, a patch and states are lent once, and window follows window over what the one before left. Rests on
-// `patch`, `states` and `parts::pools` for what it reads, and on `window` for each window.
-ghost use Rattle.replay.specs.Lent.{Fit};
-use crate::patch::read_patch;
-use crate::states::read_states;
+// `loans` and `operations::pools` for what it reads, and on `window` for each window.
+use crate::window::Session;
 use crate::window::answer_window;
-use engine::stage::Patch;
-use engine::state::States;
+use loans::patch::read_patch;
+use loans::states::read_states;
 use magnetron::pool::Pools;
-use parts::pools::Cells;
-use parts::pools::Lengths;
-use parts::pools::Samples;
-use parts::pools::Zeros;
-use parts::pools::read_marks;
-use parts::pools::read_sizes;
+use operations::pools::Lengths;
+use operations::pools::read_marks;
+use operations::pools::read_sizes;
+use stages::patch::Patch;
 use stream::place::Buffer;
 use stream::place::Place;
 
-// What is lent for the values of a window.
-pub(crate) type Values = [f64; 64];
-
-// What goes from window to window by value: the place in the streams, the pools and the states.
-pub(crate) struct Session {
-    pub(crate) place: Place,
-    pub(crate) pools: Pools,
-    pub(crate) states: States,
-}
-
-// What all windows have in common, beside the patch: whether answers include states and rings, and how much of each array is lent.
-pub(crate) struct Common {
-    pub(crate) with_states: bool,
-    pub(crate) lengths: Lengths,
-    pub(crate) values: usize,
-    pub(crate) rings: usize,
-}
-
-// What comes before the stages, with their count. Nothing is stale in the pools yet.
+// What comes before the stages, with their count: whether answers include states and rings, and how much of each array is lent. Nothing is
+// stale in the pools yet.
 struct Heading {
     place: Place,
-    common: Common,
+    with_states: bool,
     pools: Pools,
+    lengths: Lengths,
+    values: usize,
+    rings: usize,
     count: usize,
 }
 
-// A case, from the word after its sort on. Where a slice would be longer than what is lent for it, the case is refused.
+// A case, from the word after its sort on. Where a slice would be longer than what is lent for it, the case is refused; all that follows
+// sees of each array the part that the case lends.
 pub(crate) fn answer(
     start: Place,
     input: &mut Buffer,
     output: &mut Buffer,
-    internal: &mut Samples,
-    external: &mut Samples,
-    zeros: &mut Zeros,
-    rings: &mut Cells,
+    internal: &mut [f64],
+    external: &mut [f64],
+    zeros: &mut [f64],
+    rings: &mut [f64],
 ) -> Place {
     let heading = read_heading(start, input);
     let place = heading.place;
-    let common = heading.common;
-    let lengths = common.lengths;
-    if internal.len() < lengths.internal {
+    let inside = heading.lengths.internal;
+    let outside = heading.lengths.external;
+    let zero = heading.lengths.zeros;
+    let value = heading.values;
+    let ring = heading.rings;
+    let mut values = [0.0; 64];
+    if internal.len() < inside || external.len() < outside || zeros.len() < zero {
         return place.refused();
     }
-    if external.len() < lengths.external {
-        return place.refused();
-    }
-    if zeros.len() < lengths.zeros {
-        return place.refused();
-    }
-    if 64 < common.values || rings.len() < common.rings {
+    if 64 < value || rings.len() < ring {
         return place.refused();
     }
     answer_over(
-        place,
-        common,
-        heading.pools,
-        heading.count,
+        heading,
         input,
         output,
-        internal,
-        external,
-        zeros,
-        rings,
+        &mut internal[0..inside],
+        &mut external[0..outside],
+        &mut zeros[0..zero],
+        &mut values[0..value],
+        &mut rings[0..ring],
     )
 }
 
@@ -93,55 +72,59 @@ fn read_heading(start: Place, input: &mut Buffer) -> Heading {
     let lengths = sizes.lengths;
     Heading {
         place,
-        common: Common {
-            with_states: flags.word == 1,
-            lengths,
-            values: more.a as usize,
-            rings: more.b as usize,
-        },
+        with_states: flags.word == 1,
         pools,
+        lengths,
+        values: more.a as usize,
+        rings: more.b as usize,
         count: more.c as usize,
     }
 }
 
 // Stages, contents, marks and states; then the windows.
 fn answer_over(
-    start: Place,
-    common: Common,
-    pools: Pools,
-    count: usize,
+    heading: Heading,
     input: &mut Buffer,
     output: &mut Buffer,
-    internal: &mut Samples,
-    external: &mut Samples,
-    zeros: &mut Zeros,
-    rings: &mut Cells,
-) -> Place
-    requires { ⌜ Fit common ⌝ }
-{
-    let lengths = common.lengths;
-    let mut values = [0.0; 64];
-    let read = read_patch(start, count, input);
-    let staged = read.place;
-    let filled = staged
-        .read_first(input, internal, lengths.internal)
-        .read_first(input, external, lengths.external)
-        .read_first(input, zeros, lengths.zeros)
-        .read_first(input, &mut values, common.values)
-        .read_first(input, rings, common.rings);
-    let session = read_session(filled, pools, input);
+    internal: &mut [f64],
+    external: &mut [f64],
+    zeros: &mut [f64],
+    values: &mut [f64],
+    rings: &mut [f64],
+) -> Place {
+    let read = read_patch(heading.place, heading.count, input);
+    let filled = read_contents(read.place, input, internal, external, zeros, values, rings);
+    let session = read_session(filled, heading.pools, input);
     answer_windows(
         session,
-        common,
+        heading.with_states,
         read.patch,
         input,
         output,
         internal,
         external,
         zeros,
-        &mut values,
+        values,
         rings,
     )
+}
+
+// What the five slices hold.
+fn read_contents(
+    start: Place,
+    input: &mut Buffer,
+    internal: &mut [f64],
+    external: &mut [f64],
+    zeros: &mut [f64],
+    values: &mut [f64],
+    rings: &mut [f64],
+) -> Place {
+    start
+        .read_samples(input, internal)
+        .read_samples(input, external)
+        .read_samples(input, zeros)
+        .read_samples(input, values)
+        .read_samples(input, rings)
 }
 
 // Marks and states.
@@ -161,18 +144,16 @@ fn read_session(start: Place, pools: Pools, input: &mut Buffer) -> Session {
 // The number of windows, and then window after window.
 fn answer_windows(
     start: Session,
-    common: Common,
+    with_states: bool,
     patch: Patch,
     input: &mut Buffer,
     output: &mut Buffer,
-    internal: &mut Samples,
-    external: &mut Samples,
-    zeros: &Zeros,
-    values: &mut Values,
-    rings: &mut Cells,
-) -> Place
-    requires { ⌜ Fit common ⌝ }
-{
+    internal: &mut [f64],
+    external: &mut [f64],
+    zeros: &[f64],
+    values: &mut [f64],
+    rings: &mut [f64],
+) -> Place {
     let mut session = start;
     let before = session.place;
     let count = before.next(input);
@@ -185,7 +166,7 @@ fn answer_windows(
         session.place = place;
         session = answer_window(
             session,
-            common,
+            with_states,
             patch,
             input,
             output,

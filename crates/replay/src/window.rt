@@ -1,34 +1,31 @@
 // One window of a session: what the host does first, then prepare and the run, and the answer. Rests on magnetron's `prepare` and the
 // engine's `run`, which refuse what is bad.
-ghost use Prim.Native.Nat.{_≤_};
-ghost use lib.ListN.{length};
-ghost use Rattle.parts.specs.Lent.{Within};
-ghost use Rattle.replay.specs.Lent.{Fit};
-use crate::session::Common;
-use crate::session::Session;
-use crate::session::Values;
-use crate::setting::set_all;
-use crate::states::write_states;
+use answers::activity::StageActivity;
+use answers::activity::rank;
+use answers::answer::Answer;
+use answers::verdict::done;
 use engine::run::Ran;
 use engine::run::run;
-use engine::stage::Patch;
-use engine::state::States;
-use magnetron::check::done;
+use loans::setting::set_all;
+use loans::states::write_states;
 use magnetron::pool::Pools;
-use magnetron::pool::Prepared;
-use magnetron::pool::prepare;
-use magnetron::stage::StageActivity;
-use magnetron::stage::rank;
-use magnetron::write::Answer;
-use parts::pools::Cells;
-use parts::pools::Lengths;
-use parts::pools::Marked;
-use parts::pools::Samples;
-use parts::pools::Zeros;
-use parts::pools::write_marks;
+use magnetron::prepare::Prepared;
+use magnetron::prepare::prepare;
+use operations::pools::Marked;
+use operations::pools::write_marks;
+use stages::patch::Patch;
+use stages::state::States;
 use stream::place::Buffer;
 use stream::place::Place;
 use words::number::from_word;
+ghost use Prim.Native.Nat.{_≤_};
+
+// What goes from window to window by value: the place in the streams, the pools and the states.
+pub(crate) struct Session {
+    pub(crate) place: Place,
+    pub(crate) pools: Pools,
+    pub(crate) states: States,
+}
 
 // What a window begins with, and the place after it.
 struct Opening {
@@ -65,20 +62,18 @@ struct Order {
 // A window, from its first word on.
 pub(crate) fn answer_window(
     start: Session,
-    common: Common,
+    with_states: bool,
     patch: Patch,
     input: &mut Buffer,
     output: &mut Buffer,
-    internal: &mut Samples,
-    external: &mut Samples,
-    zeros: &Zeros,
-    values: &mut Values,
-    rings: &mut Cells,
-) -> Session
-    requires { ⌜ Fit common ⌝ }
-{
+    internal: &mut [f64],
+    external: &mut [f64],
+    zeros: &[f64],
+    values: &mut [f64],
+    rings: &mut [f64],
+) -> Session {
     let states = start.states;
-    let read = read_window(start.place, start.pools, common, input, external, values);
+    let read = read_window(start.place, start.pools, input, external, values);
     let place = read.place;
     let pools = read.pools;
     if place.over {
@@ -91,7 +86,6 @@ pub(crate) fn answer_window(
     let asked = read.asked;
     let ran = render(
         asked,
-        common,
         patch,
         pools,
         states,
@@ -101,26 +95,24 @@ pub(crate) fn answer_window(
         values,
         rings,
     );
-    write_answer(place, ran, common, output, internal, external, rings)
+    write_answer(place, ran, with_states, output, internal, external, rings)
 }
 
 // All words of a window. Values and external samples go where they belong.
 fn read_window(
     start: Place,
     pools: Pools,
-    common: Common,
     input: &mut Buffer,
-    external: &mut Samples,
-    values: &mut Values,
+    external: &mut [f64],
+    values: &mut [f64],
 ) -> AskedRead
-    requires { ⌜ Fit common ⌝ }
     ensures { λ r. ⌜ r .asked .count ≤ 64 ⌝ }
 {
     let opening = open(start, input);
-    let set = set_external(opening, pools, common.lengths.external, input, external);
+    let set = set_external(opening, pools, input, external);
     let after = set.place;
     let left = set.pools;
-    let filled = after.read_first(input, values, common.values);
+    let filled = after.read_samples(input, values);
     let read = read_order(filled, input);
     let place = read.place;
     let order = read.numbers;
@@ -158,15 +150,12 @@ fn open(start: Place, input: &mut Buffer) -> Opening {
 fn set_external(
     opening: Opening,
     pools: Pools,
-    lent: usize,
     input: &mut Buffer,
     external: &mut [f64],
-) -> Marked
-    requires { ⌜ lent ≤ length (now external) ⌝ }
-{
+) -> Marked {
     let place = opening.place;
     if opening.sets {
-        return set_all(place, pools, opening.n, input, &mut external[0..lent]);
+        return set_all(place, pools, opening.n, input, external);
     }
     Marked { place, pools }
 }
@@ -196,70 +185,6 @@ fn read_order(start: Place, input: &mut Buffer) -> Order
 // Prepare, where it is asked for, and the run, unless prepare is refused.
 fn render(
     asked: Asked,
-    common: Common,
-    patch: Patch,
-    pools: Pools,
-    states: States,
-    internal: &mut Samples,
-    external: &mut Samples,
-    zeros: &Zeros,
-    values: &Values,
-    rings: &mut Cells,
-) -> Ran
-    requires { ⌜ Fit common ⌝ }
-    requires { ⌜ asked .count ≤ 64 ⌝ }
-{
-    let ready = prepare_asked(asked, pools, common.lengths, internal, external, zeros);
-    if ready.verdict.number != 0 {
-        return not_run(ready, states);
-    }
-    run_asked(
-        asked,
-        common,
-        patch,
-        ready.pools,
-        states,
-        internal,
-        external,
-        zeros,
-        values,
-        rings,
-    )
-}
-
-// The pools as prepare leaves them, or as they are where it is not asked for.
-fn prepare_asked(
-    asked: Asked,
-    pools: Pools,
-    lengths: Lengths,
-    internal: &[f64],
-    external: &[f64],
-    zeros: &[f64],
-) -> Prepared
-    requires { ⌜ Within lengths (length (now internal)) (length (now external)) (length (now zeros)) ⌝ }
-{
-    let inside = lengths.internal;
-    let outside = lengths.external;
-    let zero = lengths.zeros;
-    if asked.prepares {
-        return prepare(
-            pools,
-            &internal[0..inside],
-            &external[0..outside],
-            &zeros[0..zero],
-            asked.n,
-        );
-    }
-    Prepared {
-        verdict: done(),
-        pools,
-    }
-}
-
-// The run, lent the part of each array that the session lends.
-fn run_asked(
-    asked: Asked,
-    common: Common,
     patch: Patch,
     pools: Pools,
     states: States,
@@ -269,29 +194,44 @@ fn run_asked(
     values: &[f64],
     rings: &mut [f64],
 ) -> Ran
-    requires { ⌜ Within (common .lengths) (length (now internal)) (length (now external)) (length (now zeros)) ⌝ }
-    requires { ⌜ (common .values ≤ length (now values)) × (common .rings ≤ length (now rings)) × (asked .count ≤ 64) ⌝ }
+    requires { ⌜ asked .count ≤ 64 ⌝ }
 {
     let order = asked.order;
     let count = asked.count;
-    let inside = common.lengths.internal;
-    let outside = common.lengths.external;
-    let zero = common.lengths.zeros;
-    let value = common.values;
-    let ring = common.rings;
+    let ready = prepare_asked(asked, pools, internal, external, zeros);
+    if ready.verdict.number != 0 {
+        return not_run(ready, states);
+    }
     run(
         patch,
         &order[0..count],
-        pools,
+        ready.pools,
         states,
         asked.n,
         asked.width,
-        &mut internal[0..inside],
-        &mut external[0..outside],
-        &zeros[0..zero],
-        &mut rings[0..ring],
-        &values[0..value],
+        internal,
+        external,
+        zeros,
+        rings,
+        values,
     )
+}
+
+// The pools as prepare leaves them, or as they are where it is not asked for.
+fn prepare_asked(
+    asked: Asked,
+    pools: Pools,
+    internal: &[f64],
+    external: &[f64],
+    zeros: &[f64],
+) -> Prepared {
+    if asked.prepares {
+        return prepare(pools, internal, external, zeros, asked.n);
+    }
+    Prepared {
+        verdict: done(),
+        pools,
+    }
 }
 
 // The answer to a window whose prepare was refused.
@@ -312,21 +252,20 @@ fn not_run(prepared: Prepared, states: States) -> Ran {
 fn write_answer(
     start: Place,
     ran: Ran,
-    common: Common,
+    with_states: bool,
     output: &mut Buffer,
-    internal: &Samples,
-    external: &Samples,
-    rings: &Cells,
+    internal: &[f64],
+    external: &[f64],
+    rings: &[f64],
 ) -> Session {
-    let lengths = common.lengths;
     let pools = ran.pools;
     let states = ran.states;
     let pooled = write_outcome(start, ran.answer, output)
-        .write_first(output, internal, lengths.internal)
-        .write_first(output, external, lengths.external);
+        .write_samples(output, internal)
+        .write_samples(output, external);
     let mut place = write_marks(pooled, pools, output);
-    if common.with_states {
-        place = write_states(place, states, output).write_first(output, rings, common.rings);
+    if with_states {
+        place = write_states(place, states, output).write_samples(output, rings);
     }
     Session {
         place,

@@ -1,2 +1,2 @@
--- What the contracts cite: a place, and what writing makes of it. Assumes nothing.
+-- For tests: what the contracts of `stream` cite, a place, and what writing makes of it. Assumes nothing.
 pub mod Place

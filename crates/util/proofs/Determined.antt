@@ -12,7 +12,7 @@ use contract.Monad.{Fun, fact}
 use denote.Ref.{RefT, now}
 use contract.Lifetimes.{Lfts}
 use Rattle.numbers.specs.Outcome.{Answer, Determined, as-follows, by-definition, outcome}
-use Rattle.magnetron.specs.declared.check.Verdict.{Verdict}
+use Rattle.answers.specs.declared.verdict.Verdict.{Verdict}
 use Rattle.util.specs.declared.delay_line.Cursor.{Cursor}
 use Rattle.util.specs.declared.soft_clip.SoftClip.{SoftClip}
 use Rattle.util.specs.declared.low_pass.OnePoleLowPass.{OnePoleLowPass}

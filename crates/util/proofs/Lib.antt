@@ -1,6 +1,5 @@
 -- What several proofs of `util` cite, what the crates above it can, and the theorems on the whole crate.
 pub mod Ring
 pub mod Delay
-pub mod Comb
 pub mod Edges
 pub mod Determined

@@ -1,17 +1,16 @@
 -- Places of a ring.
 --     InRing, within     what it tells that the test passed which a single operation begins with
 --     once-round         a place up to twice the length, by a difference
---     next-below         the next slot is one of the ring
 -- Assumes nothing.
 use mathlib.Core.Path.{_≡_, sym, _∙_}
 use mathlib.Core.Bool.{Bool, false, not, and-eq-true-iff}
 use Prim.Native.Nat.{ℕ, _+_, _-_, _%_, _<_, _≤_}
-use native.Mathlib.Nat.{mod-lt, mod-eq-of-lt, mod-eq-sub-mod}
+use native.Mathlib.Nat.{mod-eq-of-lt, mod-eq-sub-mod}
 use native.Mathlib.Omega.{arith}
 use lib.Dec.{leb, ltb}
 use borrow.Author.Tests.{leb-true, ltb-true}
-use Rattle.magnetron.proofs.Tests.{holds}
-use Rattle.util.specs.DelayLine.{nextSlot, inRing}
+use Rattle.answers.proofs.Tests.{holds}
+use Rattle.util.specs.DelayLine.{inRing}
 
 pub record InRing (position slots : ℕ) : Type 0 where
   pub small : slots ≤ 32768
@@ -25,6 +24,3 @@ within position slots e left =
 
 pub once-round : {k n : ℕ} → n ≤ k → k < n + n → k - n ≡ k % n
 once-round h l = sym (mod-eq-sub-mod h ∙ mod-eq-of-lt (omega arith))
-
-pub next-below : {n : ℕ} (position : ℕ) → 0 < n → nextSlot n position < n
-next-below position h = mod-lt (position + 1) h

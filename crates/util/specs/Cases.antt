@@ -10,7 +10,7 @@ use Rattle.util.specs.declared.delay_line.Cursor.{Cursor}
 use Rattle.util.specs.declared.interaction.AnyInteraction.the-variants.{Gain}
 use Rattle.util.specs.declared.comb_filter.CombFilter.{CombFilter}
 use Rattle.util.specs.declared.all_pass.AllPassDelay.{AllPassDelay}
-use Rattle.util.specs.DelayLine.{delayed, delayedFract, done, heard}
+use Rattle.util.specs.DelayLine.{delayed, delayedFract, done, tapped}
 use Rattle.util.specs.Interaction.{Step, step}
 use Rattle.util.specs.Comb.{combed}
 use Rattle.util.specs.AllPass.{passed}
@@ -49,7 +49,7 @@ answers next s (x ∷ xs) =
     t .sample ∷ answers next (t .next) xs
 
 unfoldable pub Holds : Case → Type 0
-Holds (ring-read ring position f sample) = heard (delayedFract f) (at position) ring ≡ record { verdict = done; sample = sample }
+Holds (ring-read ring position f sample) = tapped (delayedFract f) (at position) ring ≡ record { verdict = done; sample = sample }
 Holds (all-pass-run n g xs ys) = answers allPassStep (record { filter = record { cursor = at 0; feedback = g }; ring = replicate n zero64 }) xs ≡ ys
 Holds (comb-run n response limit xs ys) =
     answers combStep (record { filter = record { cursor = at 0; response = Gain response; limit = Gain limit }; ring = replicate n zero64 }) xs ≡ ys

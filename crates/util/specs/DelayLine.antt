@@ -3,6 +3,7 @@
 use Prim.Native.Nat.{ℕ, _+_, _-_, _%_}
 use mathlib.Core.Bool.{Bool, _&&_, cond}
 use mathlib.Core.List.{List}
+use mathlib.Core.Option.{none, some}
 use lib.Dec.{leb, ltb}
 use lib.IntN.{pos}
 use lib.ListN.{length, getD, set, replicate}
@@ -11,10 +12,11 @@ use Rattle.numbers.specs.Constants.{zero64, one64}
 use Rattle.numbers.specs.Small.{heldOf}
 use Rattle.numbers.specs.Ceil.{ceilOf, gapOf}
 use Rattle.numbers.specs.Outcome.{Outcome, outcome}
-use Rattle.magnetron.specs.declared.check.Verdict.{Verdict}
+use Rattle.answers.specs.Verdict.{verdictOf}
+use Rattle.answers.specs.declared.verdict.Verdict.{Verdict}
 use Rattle.util.specs.declared.delay_line.Cursor.{Cursor}
 use Rattle.util.specs.declared.delay_line.Moved.{Moved}
-use Rattle.util.specs.declared.delay_line.Heard.{Heard}
+use Rattle.util.specs.declared.delay_line.Tapped.{Tapped}
 use Rattle.util.specs.declared.delay_line.Delay.{Delay}
 use Rattle.util.specs.declared.delay_line.Read.{Read}
 use Rattle.util.specs.declared.delay_line.Read.the-variants.{Whole, Fract}
@@ -69,10 +71,10 @@ inRing position slots = leb slots 32768 && ltb position slots
 
 -- "with 4 and stage 32"
 abbrev pub refused : Verdict
-refused = record { number = 4; stage = 32 }
+refused = verdictOf (some 4)
 
 abbrev pub done : Verdict
-done = record { number = 0; stage = 32 }
+done = verdictOf none
 
 -- the delay of a ring of that length, and none where there is no such ring
 unfoldable pub delayAt : ℕ → Float → Delay
@@ -89,14 +91,14 @@ abbrev pub advancedThere : Cursor → ℕ → Outcome Verdict Cursor
 advancedThere c slots = outcome (advanced c slots .verdict) (advanced c slots .cursor)
 
 -- "a sample they would answer is then 0.0"
-unfoldable pub heard : Reading → Cursor → List Float → Heard
-heard reading c ring =
+unfoldable pub tapped : Reading → Cursor → List Float → Tapped
+tapped reading c ring =
     cond (inRing (c .position) (length ring))
     (record { verdict = done; sample = reading ring (c .position) })
     (record { verdict = refused; sample = zero64 })
 
-unfoldable pub written : Cursor → List Float → Float → Outcome Verdict (List Float)
-written c ring x =
+unfoldable pub slotWritten : Cursor → List Float → Float → Outcome Verdict (List Float)
+slotWritten c ring x =
     cond (inRing (c .position) (length ring))
     (outcome done (set ring (c .position) x))
     (outcome refused ring)

@@ -1,12 +1,12 @@
 // The all-pass delay over a ring that the host lends.
 use crate::delay_line::Cursor;
-use crate::delay_line::DONE;
-use crate::delay_line::REFUSED;
 use crate::delay_line::Read;
 use crate::delay_line::delayed_sample;
 use crate::delay_line::in_ring;
 use crate::delay_line::slot_after;
-use magnetron::check::Verdict;
+use answers::verdict::Verdict;
+use answers::verdict::done;
+use answers::verdict::refusal;
 ghost use mathlib.Core.Path.{_≡_};
 ghost use Rattle.numbers.specs.Outcome.{outcome};
 ghost use Rattle.util.specs.DelayLine.{delayed, delayedFract, readingOf, muted};
@@ -61,7 +61,7 @@ impl AllPassDelay {
         let position = self.cursor.position;
         if !in_ring(position, slots) {
             return Passed {
-                verdict: REFUSED,
+                verdict: refusal(4),
                 delay: self,
                 sample: 0.0,
             };
@@ -72,7 +72,7 @@ impl AllPassDelay {
         ring[at] = remembered;
         self.cursor.position = at;
         Passed {
-            verdict: DONE,
+            verdict: done(),
             delay: self,
             sample: delayed - remembered * self.feedback,
         }

@@ -1,18 +1,18 @@
 // The comb filter over a ring that the host lends: with any response and limit, and with those of a waveguide.
 use crate::delay_line::Cursor;
-use crate::delay_line::DONE;
 use crate::delay_line::Delay;
-use crate::delay_line::REFUSED;
 use crate::delay_line::Read;
 use crate::delay_line::delayed_sample;
-use crate::delay_line::heard_at;
 use crate::delay_line::in_ring;
 use crate::delay_line::slot_after;
+use crate::delay_line::tap_at;
 use crate::interaction::AnyInteraction;
 use crate::interaction::LowPassGain;
 use crate::soft_clip::SoftClip;
-use magnetron::check::Verdict;
-use magnetron::pool::fill_with_zeros;
+use answers::verdict::Verdict;
+use answers::verdict::done;
+use answers::verdict::refusal;
+use answers::zeros::fill_with_zeros;
 ghost use mathlib.Core.Path.{_≡_};
 ghost use Prim.Native.Nat.{_<_, _≤_};
 ghost use lib.ListN.{length};
@@ -59,7 +59,7 @@ impl CombFilter {
     {
         if !in_ring(self.cursor.position, ring.len()) {
             return Muted {
-                verdict: REFUSED,
+                verdict: refusal(4),
                 comb: self,
             };
         }
@@ -68,7 +68,7 @@ impl CombFilter {
         let response = self.response;
         let limit = self.limit;
         Muted {
-            verdict: DONE,
+            verdict: done(),
             comb: CombFilter {
                 cursor,
                 response: response.mute(),
@@ -84,7 +84,7 @@ impl CombFilter {
         let position = self.cursor.position;
         if !in_ring(position, slots) {
             return Combed {
-                verdict: REFUSED,
+                verdict: refusal(4),
                 comb: self,
                 sample: 0.0,
             };
@@ -99,7 +99,7 @@ impl CombFilter {
         let response = responded.next;
         let limit = limited.next;
         Combed {
-            verdict: DONE,
+            verdict: done(),
             comb: CombFilter {
                 cursor: Cursor { position: at },
                 response,
@@ -129,7 +129,7 @@ impl TunedComb {
         ensures { λ r. ⌜ step (tunedOver (r .comb) (now (ring .exit))) (r .sample) ≡ tunedStep delay self (now (ring .entry)) input ⌝ }
     {
         let at = slot_after(ring.len(), self.cursor.position);
-        let delayed = heard_at(ring, at, delay);
+        let delayed = tap_at(ring, at, delay);
         let response = self.response;
         let gained = response.process_sample(delayed);
         let limit = self.limit;

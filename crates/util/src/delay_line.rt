@@ -1,11 +1,13 @@
 // The delay line: a cursor by value over a ring that the host lends. The ring's length is the slice's.
-use magnetron::check::Verdict;
-use magnetron::pool::fill_with_zeros;
+use answers::verdict::Verdict;
+use answers::verdict::done;
+use answers::verdict::refusal;
+use answers::zeros::fill_with_zeros;
 ghost use mathlib.Core.Path.{_≡_};
 ghost use Prim.Native.Nat.{_+_, _-_, _%_, _<_, _≤_};
 ghost use lib.ListN.{length};
 ghost use Rattle.numbers.specs.Outcome.{outcome};
-ghost use Rattle.util.specs.DelayLine.{inRing, nextSlot, delayed, delayedBy, delayedFract, delayAt, readingOf, advanced, heard, written, muted};
+ghost use Rattle.util.specs.DelayLine.{inRing, nextSlot, delayed, delayedBy, delayedFract, delayAt, readingOf, advanced, tapped, slotWritten, muted};
 
 // The slot that is written: a place of a ring where it is below the ring's length.
 #[repr(C)]
@@ -18,7 +20,7 @@ pub struct Moved {
     pub cursor: Cursor,
 }
 
-pub struct Heard {
+pub struct Tapped {
     pub verdict: Verdict,
     pub sample: f64,
 }
@@ -34,16 +36,6 @@ pub(crate) enum Read {
     Whole,
     Fract(f64),
 }
-
-pub(crate) const DONE: Verdict = Verdict {
-    number: 0,
-    stage: 32,
-};
-
-pub(crate) const REFUSED: Verdict = Verdict {
-    number: 4,
-    stage: 32,
-};
 
 // Whether a single operation on a ring is not refused.
 pub(crate) fn in_ring(position: usize, slots: usize) -> bool
@@ -97,7 +89,7 @@ pub fn delay_at(slots: usize, fract_offset: f64) -> Delay
 }
 
 // The two slots round the delay, with as much of the second as was added. Places are found by a test and not by a remainder, since this runs for each sample.
-pub(crate) fn heard_at(ring: &[f64], position: usize, delay: Delay) -> f64
+pub(crate) fn tap_at(ring: &[f64], position: usize, delay: Delay) -> f64
     requires { ⌜ (position < length (now ring)) × (length (now ring) ≤ 32768) × (delay .whole < length (now ring)) ⌝ }
     ensures { λ r. ⌜ r ≡ delayedBy delay (now (ring .entry)) position ⌝ }
 {
@@ -119,7 +111,7 @@ pub(crate) fn delayed_sample(ring: &[f64], position: usize, read: Read) -> f64
         }
         Read::Fract(fract_offset) => {
             let delay = delay_at(ring.len(), fract_offset);
-            heard_at(ring, position, delay)
+            tap_at(ring, position, delay)
         }
     }
 }
@@ -131,54 +123,54 @@ impl Cursor {
     {
         if !in_ring(self.position, slots) {
             return Moved {
-                verdict: REFUSED,
+                verdict: refusal(4),
                 cursor: self,
             };
         }
         self.position = slot_after(slots, self.position);
         Moved {
-            verdict: DONE,
+            verdict: done(),
             cursor: self,
         }
     }
 
     // Stores a sample at the position.
     pub fn write(self, ring: &mut [f64], sample: f64) -> Verdict
-        ensures { λ r. ⌜ outcome r (now (ring .exit)) ≡ written self (now (ring .entry)) sample ⌝ }
+        ensures { λ r. ⌜ outcome r (now (ring .exit)) ≡ slotWritten self (now (ring .entry)) sample ⌝ }
     {
         let position = self.position;
         if !in_ring(position, ring.len()) {
-            return REFUSED;
+            return refusal(4);
         }
         ring[position] = sample;
-        DONE
+        done()
     }
 
     // The sample at the whole delay: the slot after the position.
-    pub fn get_delayed(self, ring: &[f64]) -> Heard
-        ensures { λ r. ⌜ r ≡ heard delayed self (now (ring .entry)) ⌝ }
+    pub fn get_delayed(self, ring: &[f64]) -> Tapped
+        ensures { λ r. ⌜ r ≡ tapped delayed self (now (ring .entry)) ⌝ }
     {
         self.get(ring, Read::Whole)
     }
 
     // The sample at a fraction of the ring's length.
-    pub fn get_delayed_fract(self, ring: &[f64], fract_offset: f64) -> Heard
-        ensures { λ r. ⌜ r ≡ heard (delayedFract «fract_offset») self (now (ring .entry)) ⌝ }
+    pub fn get_delayed_fract(self, ring: &[f64], fract_offset: f64) -> Tapped
+        ensures { λ r. ⌜ r ≡ tapped (delayedFract «fract_offset») self (now (ring .entry)) ⌝ }
     {
         self.get(ring, Read::Fract(fract_offset))
     }
 
-    fn get(self, ring: &[f64], read: Read) -> Heard
-        ensures { λ r. ⌜ r ≡ heard (readingOf read) self (now (ring .entry)) ⌝ }
+    fn get(self, ring: &[f64], read: Read) -> Tapped
+        ensures { λ r. ⌜ r ≡ tapped (readingOf read) self (now (ring .entry)) ⌝ }
     {
         if !in_ring(self.position, ring.len()) {
-            return Heard {
-                verdict: REFUSED,
+            return Tapped {
+                verdict: refusal(4),
                 sample: 0.0,
             };
         }
-        Heard {
-            verdict: DONE,
+        Tapped {
+            verdict: done(),
             sample: delayed_sample(ring, self.position, read),
         }
     }
@@ -188,9 +180,9 @@ impl Cursor {
         ensures { λ r. ⌜ outcome r (now (ring .exit)) ≡ muted self (now (ring .entry)) ⌝ }
     {
         if !in_ring(self.position, ring.len()) {
-            return REFUSED;
+            return refusal(4);
         }
         fill_with_zeros(ring);
-        DONE
+        done()
     }
 }

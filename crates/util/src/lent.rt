@@ -1,6 +1,6 @@
 // The ring's cursor where the host lent it: a thin second form of the advance by value.
 use crate::delay_line::Cursor;
-use magnetron::check::Verdict;
+use answers::verdict::Verdict;
 ghost use mathlib.Core.Path.{_≡_};
 ghost use Rattle.numbers.specs.Outcome.{outcome};
 ghost use Rattle.util.specs.DelayLine.{advancedThere};

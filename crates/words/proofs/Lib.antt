@@ -1,9 +1,3 @@
--- The laws that the proofs of functions cite, and the theorem that reading and writing undo each other. Assumes nothing.
-pub mod Nan
-pub mod Eight
-pub mod Front
-pub mod Fill
-pub mod Put
-pub mod Pour
+-- The theorem that reading and writing undo each other, and that each public contract determines its outcome. Assumes nothing.
 pub mod Inverse
 pub mod Determined

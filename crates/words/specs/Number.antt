@@ -1,4 +1,4 @@
--- "An f64 is its bits. Every NaN that is read is one NaN ..; every NaN that is written is 7ff8000000000000." (crates/replay/FORMAT.md) Assumes nothing.
+-- A number as a word: an f64 is its bits. Every word that is a NaN's is read as the one NaN that there is, and that is written as 7ff8000000000000. Assumes nothing.
 use Prim.Native.Nat.{ℕ}
 use mathlib.Core.Bool.{cond}
 use lib.Ieee.{Float, binary64, ofBits, toBits, isNan}

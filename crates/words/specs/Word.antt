@@ -1,4 +1,4 @@
--- "A word is eight bytes, low byte first." (crates/replay/FORMAT.md) Assumes nothing.
+-- A word is eight bytes, low byte first. Assumes nothing.
 use Prim.Native.Nat.{ℕ, zero, suc, _+_, _*_, _/_, _%_}
 use mathlib.Core.List.{List, [], _∷_}
 

@@ -1,5 +1,5 @@
 -- `engine::check::check_entry` meets its contract: the first of 1 to 4 that fails, or none. Assumes nothing.
-use Rattle.magnetron.proofs.Tests.{holds, fails}
+use Rattle.answers.proofs.Tests.{holds, fails}
 use Rattle.engine.proofs.Entries.{too-many, lent-stops, order-stops, rings-stop, all-pass}
 use borrow.Author.Needs.{needs}
 use Rattle.engine.proofs.check.check_entry.Statement.{statement}

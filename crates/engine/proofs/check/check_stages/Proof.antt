@@ -6,14 +6,15 @@ use lib.ListN.{length, drop}
 use borrow.Author.Needs.{needs}
 use Rattle.order.specs.Checks.{verdict}
 use Rattle.magnetron.specs.Pools.{marksIn}
-use Rattle.engine.specs.Run.{planOf, fault, turned}
+use Rattle.engine.specs.Run.{fault, turned}
+use Rattle.engine.specs.Inside.{planWith}
 use Rattle.engine.proofs.Lists.{below-at}
 use Rattle.engine.proofs.Faults.{stages-stop, stages-go, stages-end}
 use Rattle.engine.proofs.check.check_stages.Statement.{statement}
 use Rattle.engine.proofs.check.check_stages.Tie as tie
 
 abbrev Inv-loop : tie.InvT-loop
-Inv-loop order pools window values patch marks₀ j₀ marks j = verdict (fault (planOf patch pools window values)) (turned (planOf patch pools window values)) (drop j order) marks ≡ verdict (fault (planOf patch pools window values)) (turned (planOf patch pools window values)) order (marksIn pools)
+Inv-loop order pools window values patch marks₀ j₀ marks j = verdict (fault (planWith patch pools window values)) (turned (planWith patch pools window values)) (drop j order) marks ≡ verdict (fault (planWith patch pools window values)) (turned (planWith patch pools window values)) order (marksIn pools)
 
 abbrev μ-loop : tie.MeasureT-loop
 μ-loop order pools window values patch marks₀ j₀ marks j = length order - j
@@ -46,8 +47,8 @@ stage-fault-requires c κs = search needs
 returns : tie.Need-returns Inv-loop μ-loop
 returns c = stages-stop _ _ _ _ (c .before .before .before .before .before .loop .inv) _ (c .before .before .before .before .loop-test .taken) (c .before .stage-fault .ensures) (c .if1 .taken)
 
-written-requires : tie.Need-written-requires Inv-loop μ-loop
-written-requires c κs = search needs
+clear-requires : tie.Need-clear-requires Inv-loop μ-loop
+clear-requires c κs = search needs
 
 add-j : tie.Need-add-j Inv-loop μ-loop
 add-j c = omega arith
@@ -56,7 +57,7 @@ loop-less : tie.Need-loop-less Inv-loop μ-loop
 loop-less c = omega arith
 
 loop-again : tie.Need-loop-again Inv-loop μ-loop
-loop-again c = stages-go _ _ _ _ (c .before .before .before .before .before .before .loop .inv) _ _ (c .before .before .before .before .before .loop-test .taken) (c .before .before .stage-fault .ensures) (c .before .if1 .left) (c .written .ensures)
+loop-again c = stages-go _ _ _ _ (c .before .before .before .before .before .before .loop .inv) _ _ (c .before .before .before .before .before .loop-test .taken) (c .before .before .stage-fault .ensures) (c .before .if1 .left) (c .clear .ensures)
 
 done-requires : tie.Need-done-requires Inv-loop μ-loop
 done-requires c κs = search needs
@@ -78,7 +79,7 @@ check-stages-spec =
     element-copy-out-stage
     stage-fault-requires
     returns
-    written-requires
+    clear-requires
     add-j
     loop-less
     loop-again

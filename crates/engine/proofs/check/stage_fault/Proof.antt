@@ -1,6 +1,6 @@
 -- `engine::check::stage_fault` meets its contract: the first of 5, 6, 7 that fails, or none. Assumes nothing.
 use mathlib.Core.Path.{_∙_}
-use Rattle.magnetron.proofs.Tests.{holds, fails}
+use Rattle.answers.proofs.Tests.{holds, fails}
 use Rattle.microwave.proofs.Asked.{none-found, one-found}
 use Rattle.engine.proofs.Faults.{lacks, answers, first-fails, second-fails, third-fails, none-fails}
 use borrow.Author.Needs.{needs}

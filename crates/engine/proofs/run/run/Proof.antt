@@ -1,9 +1,9 @@
 -- `engine::run::run` meets its contract: refused as judged, or rendered along the order. Assumes nothing.
 use mathlib.Core.Path.{sym, ap, _∙_}
-use Rattle.magnetron.specs.declared.check.Verdict.{Verdict}
-use Rattle.engine.specs.Run.{leftBy, runOf}
+use Rattle.answers.specs.declared.verdict.Verdict.{Verdict}
+use Rattle.engine.specs.Run.{afterBy, runOf}
 use Rattle.engine.proofs.Judged.{judged-passed, passed-all}
-use Rattle.engine.proofs.Ends.{left-refused, left-done}
+use Rattle.engine.proofs.Ends.{after-refused, after-done}
 use borrow.Author.Needs.{needs}
 use Rattle.engine.proofs.run.run.Statement.{statement}
 use Rattle.engine.proofs.run.run.Tie as tie
@@ -27,8 +27,8 @@ same-length-3 : tie.Need-same-length-3
 same-length-3 c = search needs
 
 returns : tie.Need-returns
-unfolding runOf leftBy
-returns c = rw (c .refused .ensures, ← (c .before .before .before .before .before .before .before .render-window .ensures)) (left-refused _ _ _ _ _ (c .before .before .before .judge .ensures) (c .before .if1 .taken))
+unfolding runOf afterBy
+returns c = rw (c .refused .ensures, ← (c .before .before .before .before .before .before .before .render-window .ensures)) (after-refused _ _ _ _ _ (c .before .before .before .judge .ensures) (c .before .if1 .taken))
 
 run-order-requires : tie.Need-run-order-requires
 run-order-requires c κs =
@@ -51,7 +51,7 @@ returns-2 c =
     let t = c .before .before .before .before .before .before .before .before .before .before in
     rw (← (t .before .before .before .before .before .before .render-window .ensures))
     (c .before .before .before .before .before .before .run-order .ensures
-    ∙ left-done _ _ _ _ (judged-passed _ _ _ _ (ap (λ (v : Verdict). v .number) (sym (t .before .before .judge .ensures)) ∙ t .if1 .left)))
+    ∙ after-done _ _ _ _ (judged-passed _ _ _ _ (ap (λ (v : Verdict). v .number) (sym (t .before .before .judge .ensures)) ∙ t .if1 .left)))
 
 pub run-spec : {M : Type 1} → statement M
 run-spec =

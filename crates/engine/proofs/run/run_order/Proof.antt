@@ -4,21 +4,22 @@ use Prim.Native.Nat.{_-_}
 use native.Mathlib.Omega.{arith}
 use lib.ListN.{length}
 use borrow.Author.Needs.{needs}
-use Rattle.magnetron.specs.Activity.{greaterOf}
+use Rattle.answers.specs.Activity.{greaterOf}
 use Rattle.magnetron.specs.Pools.{marksIn}
-use Rattle.engine.specs.Run.{planOf, worldOf, leftBy}
-use Rattle.engine.proofs.Along.{bounded, stage-there, ring-lies, ring-small, part-lies, part-ready, stepped, Along, along-start, along-here, stage-below, along-more, along-end}
+use Rattle.engine.specs.Run.{afterBy}
+use Rattle.engine.specs.Inside.{planWith, worldWith}
+use Rattle.engine.proofs.Along.{bounded, started, ring-lies, ring-small, part-lies, part-ready, stepped, Along, along-start, along-here, stage-below, along-more, along-end}
 use Rattle.engine.proofs.run.run_order.Statement.{statement}
 use Rattle.engine.proofs.run.run_order.Tie as tie
 
 abbrev Inv-loop : tie.InvT-loop
-Inv-loop order internal₀ external₀ rings₀ values patch pools window starts marks₀ states₀ activity₀ j₀ internal external rings marks states activity j = Along (planOf patch pools window values) order (worldOf (marksIn pools) (states₀ .stages) internal₀ external₀ rings₀) (worldOf marks (states .stages) internal external rings) activity j
+Inv-loop order internal₀ external₀ rings₀ values patch pools window starts marks₀ states₀ activity₀ j₀ internal external rings marks states activity j = Along (planWith patch pools window values) order (worldWith (marksIn pools) (states₀ .stages) internal₀ external₀ rings₀) (worldWith marks (states .stages) internal external rings) activity j
 
 abbrev μ-loop : tie.MeasureT-loop
 μ-loop order internal₀ external₀ rings₀ values patch pools window starts marks₀ states₀ activity₀ j₀ internal external rings marks states activity j = length order - j
 
 ring-starts-requires : tie.Need-ring-starts-requires Inv-loop μ-loop
-ring-starts-requires c κs = bounded (c .before .before .before .before .before .before .before .before .pre .entered)
+ring-starts-requires c κs = bounded (c .before .before .before .before .before .before .before .before .pre .admitted)
 
 marks-requires : tie.Need-marks-requires Inv-loop μ-loop
 marks-requires c κs = search needs
@@ -58,14 +59,14 @@ add-end c =
     let t = c .before .before .before .before .before in
     let w = t .before in
     let ok = along-here (w .loop .inv) (t .loop-test .taken) in
-    omega (arith, ring-lies ok, (w .before .before .before .ring-starts .ensures .each) _ (stage-there ok), c .ring-len .ensures, w .loop .inv .rings, w .before .before .before .before .before .before .before .before .before .before .before .before .good .1 .1 .1 .1 .0 .1)
+    omega (arith, ring-lies ok, started ok (w .before .before .before .ring-starts .ensures), c .ring-len .ensures, w .loop .inv .rings, w .before .before .before .before .before .before .before .before .before .before .before .before .good .1 .1 .1 .1 .0 .1)
 
 mul-ring : tie.Need-mul-ring Inv-loop μ-loop
 mul-ring c =
     let t = c .before .before .before .before .before in
     let w = t .before in
     let ok = along-here (w .loop .inv) (t .loop-test .taken) in
-    omega (arith, ring-lies ok, (w .before .before .before .ring-starts .ensures .each) _ (stage-there ok), w .loop .inv .rings, w .before .before .before .before .before .before .before .before .before .before .before .before .good .1 .1 .1 .1 .0 .1)
+    omega (arith, ring-lies ok, started ok (w .before .before .before .ring-starts .ensures), w .loop .inv .rings, w .before .before .before .before .before .before .before .before .before .before .before .before .good .1 .1 .1 .1 .0 .1)
 
 sub-ring : tie.Need-sub-ring Inv-loop μ-loop
 sub-ring c = search needs
@@ -78,14 +79,14 @@ part-ring-end c =
     let t = c .before .before .before .before .before in
     let w = t .before in
     let ok = along-here (w .loop .inv) (t .loop-test .taken) in
-    part-lies ok _ _ ((w .before .before .before .ring-starts .ensures .each) _ (stage-there ok)) (c .ring-len .ensures)
+    part-lies ok _ _ (started ok (w .before .before .before .ring-starts .ensures)) (c .ring-len .ensures)
 
 take-requires : tie.Need-take-requires Inv-loop μ-loop
 take-requires c κs =
     let t = c .before .before .before .before .before .before .before .before in
     let w = t .before in
     let ok = along-here (w .loop .inv) (t .loop-test .taken) in
-    part-ready ok _ _ ((w .before .before .before .ring-starts .ensures .each) _ (stage-there ok)) (c .before .before .before .ring-len .ensures)
+    part-ready ok _ _ (started ok (w .before .before .before .ring-starts .ensures)) (c .before .before .before .ring-len .ensures)
 
 mul-next : tie.Need-mul-next Inv-loop μ-loop
 mul-next c =
@@ -97,8 +98,8 @@ element-set-from-next c =
     let t = c .before .before .before .before .before .before .before .before .before .before .before .before .before .before .before in
     omega (arith, stage-below (t .before .loop .inv) (t .loop-test .taken))
 
-written-requires : tie.Need-written-requires Inv-loop μ-loop
-written-requires c κs = search needs
+clear-requires : tie.Need-clear-requires Inv-loop μ-loop
+clear-requires c κs = search needs
 
 stage-activity-requires : tie.Need-stage-activity-requires Inv-loop μ-loop
 stage-activity-requires c κs = search needs
@@ -109,7 +110,7 @@ greater-requires c κs = search needs
 add-j : tie.Need-add-j Inv-loop μ-loop
 add-j c =
     let t = c .before .before .before .before .before .before .before .before .before .before .before .before .before .before .before .before .before .before in
-    omega (arith, t .loop-test .taken, t .before .before .before .before .before .before .before .before .before .before .before .before .before .pre .entered .short)
+    omega (arith, t .loop-test .taken, t .before .before .before .before .before .before .before .before .before .before .before .before .before .pre .admitted .short)
 
 loop-less : tie.Need-loop-less Inv-loop μ-loop
 loop-less c = omega (arith, c .before .before .before .before .before .before .before .before .before .before .before .before .before .before .before .before .before .before .loop-test .taken)
@@ -121,15 +122,15 @@ loop-again c =
     let w = t .before in
     let ok = along-here (w .loop .inv) (t .loop-test .taken) in
     along-more (w .loop .inv) _ _ (t .loop-test .taken)
-    (stepped ok _ _ ((w .before .before .before .ring-starts .ensures .each) _ (stage-there ok)) (n .before .before .before .before .ring-len .ensures)
-    (n .take .last .1 .1 .0) (n .take .kept .1 .1 .0) (c .before .before .written .ensures) (n .take .ensures))
+    (stepped ok _ _ (started ok (w .before .before .before .ring-starts .ensures)) (n .before .before .before .before .ring-len .ensures)
+    (n .take .last .1 .1 .0) (n .take .kept .1 .1 .0) (c .before .before .clear .ensures) (n .take .ensures))
     (c .greater .ensures ∙ ap (greaterOf (w .loop .activity)) (c .before .stage-activity .ensures))
+
+accepted-requires : tie.Need-accepted-requires Inv-loop μ-loop
+accepted-requires c κs = search needs
 
 with-marks-requires : tie.Need-with-marks-requires Inv-loop μ-loop
 with-marks-requires c κs = search needs
-
-finished-requires : tie.Need-finished-requires Inv-loop μ-loop
-finished-requires c κs = search needs
 
 same-length : tie.Need-same-length Inv-loop μ-loop
 same-length c = (c .before .before .before .loop .inv .internal)
@@ -141,10 +142,10 @@ same-length-3 : tie.Need-same-length-3 Inv-loop μ-loop
 same-length-3 c = (c .before .before .before .loop .inv .rings)
 
 returns : tie.Need-returns Inv-loop μ-loop
-unfolding leftBy
+unfolding afterBy
 returns c =
     let e = along-end (c .before .before .before .loop .inv) (c .before .before .loop-test .left) in
-    rw (c .finished .ensures, c .before .with-marks .ensures, sym (e .0), sym (e .1)) refl
+    rw (c .before .accepted .ensures, c .with-marks .ensures, sym (e .0), sym (e .1)) refl
 
 pub run-order-spec : {M : Type 1} → statement M
 run-order-spec =
@@ -172,14 +173,14 @@ run-order-spec =
     take-requires
     mul-next
     element-set-from-next
-    written-requires
+    clear-requires
     stage-activity-requires
     greater-requires
     add-j
     loop-less
     loop-again
+    accepted-requires
     with-marks-requires
-    finished-requires
     same-length
     same-length-2
     same-length-3

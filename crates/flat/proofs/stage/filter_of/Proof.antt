@@ -4,8 +4,8 @@ use Prim.Native.Nat.{ℕ, _-_, _<_}
 use native.Mathlib.Omega.{arith}
 use lib.ListN.{List·getD-eq-default}
 use mathlib.Core.List.{[], _∷_}
-use Rattle.flat.proofs.Past.{past}
 use Rattle.flat.specs.Stage.{filterOf}
+use Rattle.flat.proofs.stage.Past.{past}
 use Rattle.flat.proofs.stage.filter_of.Statement.{statement}
 use Rattle.flat.proofs.stage.filter_of.Tie as tie
 

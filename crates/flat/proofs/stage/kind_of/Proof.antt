@@ -1,9 +1,9 @@
 -- `flat::stage::kind_of` meets its contract: in each arm the kind is known, and so is the entry of the table. Assumes nothing.
 use mathlib.Core.Path.{refl}
-use Rattle.flat.proofs.Filters.{a-filter}
-use lib.ListN.{List·getD-eq-default}
-use Rattle.flat.proofs.Past.{past}
 use Rattle.flat.specs.Stage.{kinds, kindOf}
+use lib.ListN.{List·getD-eq-default}
+use Rattle.flat.proofs.stage.Filters.{a-filter}
+use Rattle.flat.proofs.stage.Past.{past}
 use borrow.Author.Needs.{needs}
 use Rattle.flat.proofs.stage.kind_of.Statement.{statement}
 use Rattle.flat.proofs.stage.kind_of.Tie as tie

@@ -1,5 +1,5 @@
 -- `flat::stage::known` meets its contract: the tests that held, and the one that failed. Assumes nothing.
-use Rattle.magnetron.proofs.Tests.{holds, fails}
+use Rattle.answers.proofs.Tests.{holds, fails}
 use borrow.Author.Needs.{needs}
 use Rattle.flat.proofs.stage.known.Statement.{statement}
 use Rattle.flat.proofs.stage.known.Tie as tie

@@ -1,6 +1,6 @@
 -- `flat::stage::stage_of` meets its contract: what is known of the form and of the numbers, then the parts. Assumes nothing.
+use Rattle.answers.proofs.Tests.{holds, fails}
 use Rattle.flat.specs.Stage.{namedBy, namedOf}
-use Rattle.magnetron.proofs.Tests.{holds, fails}
 use borrow.Author.Needs.{needs}
 use Rattle.flat.proofs.stage.stage_of.Statement.{statement}
 use Rattle.flat.proofs.stage.stage_of.Tie as tie

@@ -1,8 +1,8 @@
 -- `flat::stage::waveform_of` meets its contract: in each arm the number is known, and so is the entry of the table. Assumes nothing.
 use lib.ListN.{List·getD-eq-default}
 use mathlib.Core.List.{[], _∷_}
-use Rattle.flat.proofs.Past.{past}
 use Rattle.flat.specs.Stage.{waveformOf}
+use Rattle.flat.proofs.stage.Past.{past}
 use Rattle.flat.proofs.stage.waveform_of.Statement.{statement}
 use Rattle.flat.proofs.stage.waveform_of.Tie as tie
 

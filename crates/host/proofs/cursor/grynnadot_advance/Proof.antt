@@ -34,14 +34,14 @@ use denote.Triple.Entry.{Args, Vals, onEntry}
 use denote.Triple.Spec.{Meets, tripleOf}
 use denote.Triple.Table.{entered, cited}
 use denote.Triple.Walked.{says, Stays, stay-dropped, gave-ref, walkOf, AllGo, goes-dropped, goes-gave-ref, Walks, ends-at, walked, walk-meets}
-use Rattle.magnetron.specs.declared.check.Verdict.{Verdict}
-use Rattle.util.specs.declared.delay_line.Cursor.{Cursor}
 use Rattle.numbers.specs.Outcome.{outcome}
-use Rattle.util.specs.DelayLine.{advancedThere}
+use Rattle.answers.specs.declared.verdict.Verdict.{Verdict}
+use Rattle.answers.proofs.verdict.Verdict as N
+use Rattle.answers.proofs.verdict.Verdict.Laws as N′
 -- T: what is lent; N: what is returned
+use Rattle.util.specs.declared.delay_line.Cursor.{Cursor}
+use Rattle.util.specs.DelayLine.{advancedThere}
 use Rattle.util.proofs.delay_line.Cursor as T
-use Rattle.magnetron.proofs.check.Verdict as N
-use Rattle.magnetron.proofs.check.Verdict.Laws as N′
 -- g: the callee
 use Rattle.util.proofs.lent.advance_lent as g
 use Rattle.util.proofs.lent.advance_lent.Symbol as g-def

@@ -1,6 +1,6 @@
 -- `host::pools::write` meets its contract: magnetron's write, of what the numbers name. Assumes nothing.
 use mathlib.Core.Path.{ap}
-use Rattle.host.specs.Host.{flatWritten, flatWriteOf}
+use Rattle.host.specs.Host.{flatWrote, flatWriteOf}
 use borrow.Author.Needs.{needs}
 use Rattle.host.proofs.pools.write.Statement.{statement}
 use Rattle.host.proofs.pools.write.Tie as tie
@@ -25,7 +25,7 @@ same-length-2 c = search needs
 
 returns : tie.Need-returns
 unfolding flatWriteOf
-returns c = rw ((c .wrote-of .ensures), ← (c .before .before .before .before .before .before .before .before .before .buffer-of .ensures), ← (c .before .before .before .before .before .before .before .before .level-in .ensures)) (ap flatWritten ((c .before .before .before .before .before .write-1 .ensures)))
+returns c = rw ((c .wrote-of .ensures), ← (c .before .before .before .before .before .before .before .before .before .buffer-of .ensures), ← (c .before .before .before .before .before .before .before .before .level-in .ensures)) (ap flatWrote ((c .before .before .before .before .before .write-1 .ensures)))
 
 pub write-spec : {M : Type 1} → statement M
 write-spec =

@@ -2,7 +2,7 @@
 -- Assumes nothing.
 use mathlib.Core.Bool.{and-true}
 use borrow.Author.Needs.{needs}
-use Rattle.magnetron.proofs.Tests.{holds, fails}
+use Rattle.answers.proofs.Tests.{holds, fails}
 use Rattle.magnetron.proofs.check.all_there.Statement.{statement}
 use Rattle.magnetron.proofs.check.all_there.Tie as tie
 

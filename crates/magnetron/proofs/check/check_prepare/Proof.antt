@@ -1,8 +1,8 @@
 -- `magnetron::check::check_prepare` meets its contract: each return rewrites with the tests that led there.
 -- Assumes nothing.
 use borrow.Author.Needs.{needs}
+use Rattle.answers.proofs.Tests.{holds, fails}
 use Rattle.magnetron.specs.Single.{prepareFault}
-use Rattle.magnetron.proofs.Tests.{holds, fails}
 use Rattle.magnetron.proofs.check.check_prepare.Statement.{statement}
 use Rattle.magnetron.proofs.check.check_prepare.Tie as tie
 

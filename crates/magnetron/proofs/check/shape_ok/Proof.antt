@@ -2,8 +2,8 @@
 -- Assumes nothing.
 use borrow.Author.Tests.{eq-eqb, ne-eqb}
 use borrow.Author.Needs.{needs}
+use Rattle.answers.proofs.Tests.{holds, fails}
 use Rattle.magnetron.specs.Checks.{shapeOk}
-use Rattle.magnetron.proofs.Tests.{holds, fails}
 use Rattle.magnetron.proofs.check.shape_ok.Statement.{statement}
 use Rattle.magnetron.proofs.check.shape_ok.Tie as tie
 

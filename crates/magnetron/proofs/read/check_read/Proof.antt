@@ -1,8 +1,8 @@
 -- `magnetron::read::check_read` meets its contract: a verdict goes on to the next check, or stops there.
 -- Assumes nothing.
 use borrow.Author.Needs.{needs}
+use Rattle.answers.proofs.Verdicts.{stopped, went-on}
 use Rattle.magnetron.specs.Single.{readFault}
-use Rattle.magnetron.proofs.Verdicts.{stopped, went-on}
 use Rattle.magnetron.proofs.Faults.{prepare-numbered}
 use Rattle.magnetron.proofs.read.check_read.Statement.{statement}
 use Rattle.magnetron.proofs.read.check_read.Tie as tie

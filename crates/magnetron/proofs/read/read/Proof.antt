@@ -6,10 +6,10 @@ use native.Mathlib.Nat.{add-sub-cancel-left, sub-zero}
 use native.Mathlib.Omega.{arith}
 use borrow.Author.Needs.{needs}
 use Rattle.order.specs.Checks.{passed}
+use Rattle.answers.proofs.Verdicts.{accepted, rejected}
 use Rattle.magnetron.specs.Single.{lent, readFault, readOf}
-use Rattle.magnetron.proofs.Verdicts.{accepted, rejected}
 use Rattle.magnetron.proofs.Faults.{read-numbered}
-use Rattle.magnetron.proofs.Reading.{enough, lies, stale-part, fresh-part}
+use Rattle.magnetron.proofs.read.Reading.{enough, lies, stale-part, fresh-part}
 use Rattle.magnetron.proofs.read.read.Statement.{statement}
 use Rattle.magnetron.proofs.read.read.Tie as tie
 

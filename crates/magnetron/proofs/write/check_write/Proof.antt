@@ -1,9 +1,9 @@
 -- `magnetron::write::check_write` meets its contract: a verdict goes on to the next check, or stops there.
 -- Assumes nothing.
 use borrow.Author.Needs.{needs}
+use Rattle.answers.proofs.Tests.{holds, fails}
+use Rattle.answers.proofs.Verdicts.{stopped, went-on}
 use Rattle.magnetron.specs.Single.{writeFault}
-use Rattle.magnetron.proofs.Tests.{holds, fails}
-use Rattle.magnetron.proofs.Verdicts.{stopped, went-on}
 use Rattle.magnetron.proofs.Faults.{prepare-numbered}
 use Rattle.magnetron.proofs.write.check_write.Statement.{statement}
 use Rattle.magnetron.proofs.write.check_write.Tie as tie

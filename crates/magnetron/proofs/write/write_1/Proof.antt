@@ -4,11 +4,11 @@ use mathlib.Core.Path.{_≡_}
 use mathlib.Core.Bool.{true}
 use borrow.Author.Needs.{needs}
 use Rattle.order.specs.Checks.{passed}
+use Rattle.answers.proofs.Verdicts.{accepted}
 use Rattle.magnetron.specs.Single.{lent, writeFault}
 use Rattle.magnetron.specs.declared.buffer.BufferIndex.the-variants.{External, Internal}
-use Rattle.magnetron.proofs.Verdicts.{accepted}
 use Rattle.magnetron.proofs.Faults.{write-numbered, writable}
-use Rattle.magnetron.proofs.Putting.{write-refused, write-done}
+use Rattle.magnetron.proofs.write.Putting.{write-refused, write-done}
 use Rattle.magnetron.proofs.write.write_1.Statement.{statement}
 use Rattle.magnetron.proofs.write.write_1.Tie as tie
 
@@ -35,8 +35,8 @@ returns c = rw (c .refused .ensures) (write-refused _ _ _ _ _ _ (c .before .befo
 level-or-one-requires : tie.Need-level-or-one-requires
 level-or-one-requires c κs = search needs
 
-written-requires : tie.Need-written-requires
-written-requires c κs = search needs
+finished-requires : tie.Need-finished-requires
+finished-requires c κs = search needs
 
 enum-told : tie.Need-enum-told
 enum-told c = search needs
@@ -54,10 +54,10 @@ returns-2 : tie.Need-returns-2
 returns-2 c =
     let past = c .before .before .before .before .before .before .before .before .before in
     let level = c .before .before .before .before .before .before .before .before .level-or-one in
-    let written = c .before .before .before .before .before .before .before .written in
+    let finished = c .before .before .before .before .before .before .before .finished in
     let told = c .before .before .before .before .before .enum-told in
     let put = c .before .before .put in
-    rw (written .ensures) (write-done _ _ _ _ (External _) (told .given .1) (ok past) _ (rw (level .ensures) at (put .ensures)))
+    rw (finished .ensures) (write-done _ _ _ _ (External _) (told .given .1) (ok past) _ (rw (level .ensures) at (put .ensures)))
 
 enum-told-2 : tie.Need-enum-told-2
 enum-told-2 c = search needs
@@ -75,10 +75,10 @@ returns-3 : tie.Need-returns-3
 returns-3 c =
     let past = c .before .before .before .before .before .before .before .before .before in
     let level = c .before .before .before .before .before .before .before .before .level-or-one in
-    let written = c .before .before .before .before .before .before .before .written in
+    let finished = c .before .before .before .before .before .before .before .finished in
     let told = c .before .before .before .before .before .enum-told2 in
     let put2 = c .before .before .put2 in
-    rw (written .ensures) (write-done _ _ _ _ (Internal _) (told .given .1) (ok past) _ (rw (level .ensures) at (put2 .ensures)))
+    rw (finished .ensures) (write-done _ _ _ _ (Internal _) (told .given .1) (ok past) _ (rw (level .ensures) at (put2 .ensures)))
 
 pub write-1-spec : {M : Type 1} → statement M
 write-1-spec =
@@ -90,7 +90,7 @@ write-1-spec =
     same-length-2
     returns
     level-or-one-requires
-    written-requires
+    finished-requires
     enum-told
     put-requires
     same-length-3

@@ -1,22 +1,22 @@
--- `microwave::window::plain_window` meets its contract: the loop's invariant is `Wrote`, of the shape over its inputs as signals. Assumes nothing.
+-- `microwave::window::plain_window` meets its contract: the loop's invariant is `Writing`, of the shape over its inputs as signals. Assumes nothing.
 use mathlib.Core.Path.{ap₂, _∙_}
 use Prim.Native.Nat.{_-_}
 use native.Mathlib.Omega.{arith}
 use borrow.Author.Needs.{needs}
-use Rattle.magnetron.specs.Inputs.{signalOf}
+use Rattle.magnetron.specs.Inside.Source.{signalOf}
+use Rattle.magnetron.proofs.Writing.{Writing, writing-start, room, reach, as-at-first, writing-more, writing-end}
 use Rattle.microwave.specs.Plain.{shapedOf}
-use Rattle.microwave.proofs.Turns.{Wrote, wrote-start, room, reach, heard, wrote-more, wrote-end}
 use Rattle.microwave.proofs.window.plain_window.Statement.{statement}
 use Rattle.microwave.proofs.window.plain_window.Tie as tie
 
 abbrev Inv-loop : tie.InvT-loop
-Inv-loop shape own₀ other first second target i₀ own i = Wrote own₀ target (λ n. shapedOf shape (signalOf first own₀ other n) (signalOf second own₀ other n)) own i
+Inv-loop shape own₀ other first second target i₀ own i = Writing own₀ target (λ n. shapedOf shape (signalOf first own₀ other n) (signalOf second own₀ other n)) own i
 
 abbrev μ-loop : tie.MeasureT-loop
 μ-loop shape own₀ other first second target i₀ own i = target .samples - i
 
 loop-holds : tie.Need-loop-holds Inv-loop μ-loop
-loop-holds c = wrote-start (c .before .before .pre .0)
+loop-holds c = writing-start (c .before .before .pre .0)
 
 fetch-requires : tie.Need-fetch-requires Inv-loop μ-loop
 fetch-requires c κs =
@@ -50,15 +50,15 @@ loop-again c =
     let t = y .before .before .before .before .before .before in
     let w = t .before .before in
     let s = w .before .before .before in
-    let first = heard (w .loop .inv) (t .if1 .taken) (s .args .first) (s .args .other .now) (s .pre .1) (y .before .before .before .before .fetch .ensures) in
-    let second = heard (w .loop .inv) (t .if1 .taken) (s .args .second) (s .args .other .now) (s .pre .2) (y .before .before .fetch2 .ensures) in
-    wrote-more (w .loop .inv) (t .if1 .taken) (y .shaped .ensures ∙ ap₂ (shapedOf (s .args .shape)) first second) (c .before .before .write-sample .ensures)
+    let first = as-at-first (w .loop .inv) (t .if1 .taken) (s .args .first) (s .args .other .now) (s .pre .1) (y .before .before .before .before .fetch .ensures) in
+    let second = as-at-first (w .loop .inv) (t .if1 .taken) (s .args .second) (s .args .other .now) (s .pre .2) (y .before .before .fetch2 .ensures) in
+    writing-more (w .loop .inv) (t .if1 .taken) (y .shaped .ensures ∙ ap₂ (shapedOf (s .args .shape)) first second) (c .before .before .write-sample .ensures)
 
 same-length : tie.Need-same-length Inv-loop μ-loop
-same-length c = c .before .before .loop .inv .writes .long
+same-length c = c .before .before .loop .inv .long
 
 returns : tie.Need-returns Inv-loop μ-loop
-returns c = wrote-end (c .before .before .loop .inv) (c .if1 .left)
+returns c = writing-end (c .before .before .loop .inv) (c .if1 .left)
 
 pub plain-window-spec : {M : Type 1} → statement M
 plain-window-spec =

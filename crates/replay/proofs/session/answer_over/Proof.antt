@@ -1,4 +1,5 @@
--- `replay::session::answer_over` is safe: the lengths are those that it was called with. Assumes nothing.
+-- `replay::session::answer_over` is safe: what is lent comes back as long as it was, from the reading and from the windows. Assumes nothing.
+use mathlib.Core.Path.{_∙_}
 use borrow.Author.Needs.{needs}
 use Rattle.replay.proofs.session.answer_over.Statement.{statement}
 use Rattle.replay.proofs.session.answer_over.Tie as tie
@@ -6,29 +7,37 @@ use Rattle.replay.proofs.session.answer_over.Tie as tie
 read-patch-requires : tie.Need-read-patch-requires
 read-patch-requires c κs = search needs
 
-read-first-requires : tie.Need-read-first-requires
-read-first-requires c κs = search needs
-
-read-first-requires-2 : tie.Need-read-first-requires-2
-read-first-requires-2 c κs = search needs
-
-read-first-requires-3 : tie.Need-read-first-requires-3
-read-first-requires-3 c κs = search needs
-
-slice-aggregate-read-first : tie.Need-slice-aggregate-read-first
-slice-aggregate-read-first c = search needs
-
-read-first-requires-4 : tie.Need-read-first-requires-4
-read-first-requires-4 c κs = search needs
-
-read-first-requires-5 : tie.Need-read-first-requires-5
-read-first-requires-5 c κs = search needs
+read-contents-requires : tie.Need-read-contents-requires
+read-contents-requires c κs = search needs
 
 read-session-requires : tie.Need-read-session-requires
 read-session-requires c κs = search needs
 
 answer-windows-requires : tie.Need-answer-windows-requires
-answer-windows-requires c κs = c .before .before .before .before .before .before .before .before .before .before .before .before .before .before .before .before .before .before .before .before .before .before .before .before .before .before .before .before .before .pre
+answer-windows-requires c κs = search needs
+
+same-length : tie.Need-same-length
+same-length c =
+    let answered = c .before .before .before .before .before .before .before .before in
+    answered .answer-windows .kept .1 .1 .1 .1 .1 .0 ∙ answered .before .before .before .before .before .before .before .before .before .before .before .before .before .before .before .before .before .before .before .before .read-contents .kept .1 .1 .0
+
+same-length-2 : tie.Need-same-length-2
+same-length-2 c =
+    let answered = c .before .before .before .before .before .before .before .before in
+    answered .answer-windows .kept .1 .1 .1 .1 .1 .1 .0 ∙ answered .before .before .before .before .before .before .before .before .before .before .before .before .before .before .before .before .before .before .before .before .read-contents .kept .1 .1 .1 .0
+
+same-length-3 : tie.Need-same-length-3
+same-length-3 c = c .before .before .before .before .before .before .before .before .before .before .before .before .before .before .before .before .before .before .before .before .before .before .before .before .before .before .before .before .read-contents .kept .1 .1 .1 .1 .0
+
+same-length-4 : tie.Need-same-length-4
+same-length-4 c =
+    let answered = c .before .before .before .before .before .before .before .before in
+    answered .answer-windows .kept .1 .1 .1 .1 .1 .1 .1 .1 .0 ∙ answered .before .before .before .before .before .before .before .before .before .before .before .before .before .before .before .before .before .before .before .before .read-contents .kept .1 .1 .1 .1 .1 .0
+
+same-length-5 : tie.Need-same-length-5
+same-length-5 c =
+    let answered = c .before .before .before .before .before .before .before .before in
+    answered .answer-windows .kept .1 .1 .1 .1 .1 .1 .1 .1 .1 .0 ∙ answered .before .before .before .before .before .before .before .before .before .before .before .before .before .before .before .before .before .before .before .before .read-contents .kept .1 .1 .1 .1 .1 .1 .0
 
 returns : tie.Need-returns
 returns c = search needs
@@ -38,12 +47,12 @@ answer-over-spec =
     tie.close
     (tie.spec
     read-patch-requires
-    read-first-requires
-    read-first-requires-2
-    read-first-requires-3
-    slice-aggregate-read-first
-    read-first-requires-4
-    read-first-requires-5
+    read-contents-requires
     read-session-requires
     answer-windows-requires
+    same-length
+    same-length-2
+    same-length-3
+    same-length-4
+    same-length-5
     returns)

@@ -1,6 +1,6 @@
 -- `util::delay_line::delay_at` meets its contract: the offset of a ring is from 0 to its last slot, so it is rounded up as the definition has it. Assumes nothing.
 use native.Mathlib.Omega.{arith}
-use Rattle.magnetron.proofs.Tests.{holds, fails}
+use Rattle.answers.proofs.Tests.{holds, fails}
 use Rattle.util.specs.DelayLine.{delayAt}
 use Rattle.util.proofs.Ring.{within}
 use Rattle.util.proofs.Delay.{delay-made}

@@ -31,14 +31,14 @@ enum-known-read c = search needs
 delay-at-requires : tie.Need-delay-at-requires
 delay-at-requires c κs = search needs
 
-heard-at-requires : tie.Need-heard-at-requires
-heard-at-requires c κs = (omega arith, omega arith, rw (delay-is c) (delay-below _ _ (omega arith) (omega arith)))
+tap-at-requires : tie.Need-tap-at-requires
+tap-at-requires c κs = (omega arith, omega arith, rw (delay-is c) (delay-below _ _ (omega arith) (omega arith)))
 
 returns : tie.Need-returns
 returns c = rw (c .before .before .enum-told .given .1, c .before .slot-after .ensures .0)
 
 returns-2 : tie.Need-returns-2
-returns-2 c = rw (c .before .before .before .read .given .1) (rw (← delay-is (c .before)) (c .heard-at .ensures))
+returns-2 c = rw (c .before .before .before .read .given .1) (rw (← delay-is (c .before)) (c .tap-at .ensures))
 
 pub delayed-sample-spec : {M : Type 1} → statement M
 delayed-sample-spec =
@@ -50,6 +50,6 @@ delayed-sample-spec =
     shared-slice-read-result
     enum-known-read
     delay-at-requires
-    heard-at-requires
+    tap-at-requires
     returns
     returns-2)

@@ -40,15 +40,15 @@ use denote.Triple.Table.{entered, cited}
 use denote.Triple.Walked.{says, Stays, stay-ref, stay-none, walkOf, AllGo, goes-none, goes-ref, Walks, ends-at, walked, walk-meets}
 use denote.Exit.{yes}
 use Rattle.numbers.specs.Outcome.{outcome}
-use Rattle.magnetron.specs.declared.check.Verdict.{Verdict}
+use Rattle.answers.specs.declared.verdict.Verdict.{Verdict}
+use Rattle.answers.proofs.verdict.Verdict as N
+use Rattle.answers.proofs.verdict.Verdict.Laws as N′
 use Rattle.util.specs.declared.delay_line.Cursor.{Cursor}
+-- T: what is lent; N: what comes back beside it; R: what the callee returns, both in one
 use Rattle.util.specs.declared.delay_line.Moved.{Moved}
 use Rattle.util.specs.DelayLine.{advanced}
--- T: what is lent; N: what comes back beside it; R: what the callee returns, both in one
 use Rattle.util.proofs.delay_line.Cursor as T
 use Rattle.util.proofs.delay_line.Cursor.Laws as T′
-use Rattle.magnetron.proofs.check.Verdict as N
-use Rattle.magnetron.proofs.check.Verdict.Laws as N′
 use Rattle.util.proofs.delay_line.Moved as R
 use Rattle.util.proofs.delay_line.Moved.Laws as R′
 -- g: the callee, by value

@@ -3,7 +3,7 @@ use mathlib.Core.Path.{sym, _∙_}
 use lib.Ieee.{binary64, div, ofBits}
 use lib.Ieee.Bits.{nanBits-above}
 use borrow.Author.Tests.{lt-ltb, le-ltb}
-use Rattle.words.proofs.Nan.{word-nan, is-nan}
+use Rattle.words.proofs.number.Nan.{word-nan, is-nan}
 use borrow.Author.Needs.{needs}
 use Rattle.words.proofs.number.from_word.Statement.{statement}
 use Rattle.words.proofs.number.from_word.Tie as tie

@@ -4,7 +4,7 @@ use lib.Ieee.{isNan}
 use lib.Ieee.Compare.{differs-from-itself}
 use denote.Floats.{passes}
 use Rattle.words.specs.Number.{toWord}
-use Rattle.words.proofs.Nan.{no-nan}
+use Rattle.words.proofs.number.Nan.{no-nan}
 use Rattle.words.proofs.number.to_word.Statement.{statement}
 use Rattle.words.proofs.number.to_word.Tie as tie
 

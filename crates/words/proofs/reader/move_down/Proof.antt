@@ -4,7 +4,7 @@ use Prim.Native.Nat.{_≤_, _-_}
 use native.Mathlib.Omega.{arith}
 use lib.ListN.{length, drop, length-set}
 use lib.Seq.{paste, paste-zero}
-use Rattle.words.proofs.Front.{moved}
+use Rattle.words.proofs.reader.Front.{moved}
 use Rattle.words.proofs.reader.move_down.Statement.{statement}
 use Rattle.words.proofs.reader.move_down.Tie as tie
 

@@ -1,6 +1,6 @@
 -- `words::reader::word_at` meets its contract: the eight bytes are those that it hands over. Assumes nothing.
 use native.Mathlib.Omega.{arith}
-use Rattle.words.proofs.Eight.{eight}
+use Rattle.words.proofs.reader.Eight.{eight}
 use borrow.Author.Needs.{needs}
 use Rattle.words.proofs.reader.word_at.Statement.{statement}
 use Rattle.words.proofs.reader.word_at.Tie as tie

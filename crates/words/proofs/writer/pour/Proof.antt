@@ -6,7 +6,7 @@ use native.Mathlib.Omega.{arith}
 use borrow.Author.Needs.{needs}
 use lib.ListN.{length}
 use Rattle.words.specs.Writer.{ifStored, poursOf, pouredOf}
-use Rattle.words.proofs.Pour.{pour-done, pour-one}
+use Rattle.words.proofs.writer.Pouring.{pour-done, pour-one}
 use Rattle.words.proofs.writer.pour.Statement.{statement}
 use Rattle.words.proofs.writer.pour.Tie as tie
 

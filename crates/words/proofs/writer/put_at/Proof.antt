@@ -7,7 +7,7 @@ use native.Mathlib.Omega.{arith}
 use lib.ListN.{length, length-set}
 use lib.Seq.{sets}
 use Rattle.words.specs.Word.{bytesOf}
-use Rattle.words.proofs.Put.{put-more}
+use Rattle.words.proofs.writer.Putting.{put-more}
 use Rattle.words.proofs.writer.put_at.Statement.{statement}
 use Rattle.words.proofs.writer.put_at.Tie as tie
 

@@ -1,6 +1,6 @@
 -- `engine::turn::Turn::render` meets its contract: the machine that the numbers settle, played on the sources. Assumes nothing.
 use Rattle.microwave.specs.Parameter.{numbersOf}
-use Rattle.engine.proofs.Turns.{output-small, inputs-placed, playable, rendered}
+use Rattle.engine.proofs.turn.Turns.{output-small, inputs-placed, playable, rendered}
 use borrow.Author.Needs.{needs}
 use Rattle.engine.proofs.turn.Turn.render.Statement.{statement}
 use Rattle.engine.proofs.turn.Turn.render.Tie as tie
@@ -18,7 +18,7 @@ numbers-found-requires-2 : tie.Need-numbers-found-requires-2
 numbers-found-requires-2 c κs = search needs
 
 base-of-requires : tie.Need-base-of-requires
-base-of-requires c κs = output-small (c .before .before .before .before .before .before .before .before .before .before .before .before .before .pre)
+base-of-requires c κs = output-small (c .before .before .before .before .before .before .before .before .before .pre)
 
 at-requires : tie.Need-at-requires
 at-requires c κs = search needs
@@ -27,7 +27,7 @@ inputs-requires : tie.Need-inputs-requires
 inputs-requires c κs = search needs
 
 sources-requires : tie.Need-sources-requires
-sources-requires c κs = rw (c .inputs .ensures) (inputs-placed (c .before .before .before .before .before .before .before .before .before .before .before .before .before .before .before .before .pre))
+sources-requires c κs = rw (c .inputs .ensures) (inputs-placed (c .before .before .before .before .before .before .before .before .before .before .before .before .pre))
 
 settle-requires : tie.Need-settle-requires
 settle-requires c κs = search needs
@@ -41,7 +41,7 @@ play-requires c κs =
     let e = c .before .before in
     let n = e .before .before .before .before .before .before in
     rw (e .before .settle .ensures, e .enter .ensures, n .numbers-found2 .ensures, n .before .asks .ensures, e .before .before .sources .ensures, e .before .before .before .inputs .ensures, e .before .before .before .before .before .base-of .ensures, e .before .before .before .before .at .ensures, n .before .before .numbers-found .ensures, n .before .before .before .level-ask .ensures)
-    (playable (n .before .before .before .before .before .before .before .before .before .before .before .before .before .pre))
+    (playable (n .before .before .before .before .before .before .before .before .before .pre))
 
 same-length : tie.Need-same-length
 same-length c = search needs
@@ -54,7 +54,7 @@ unfolding numbersOf
 returns c =
     let e = c .before .before .before .before .before .before .before in
     let n = e .before .before .before .before .before .before in
-    rendered (n .before .before .before .before .before .before .before .before .before .before .before .before .before .pre) _ _
+    rendered (n .before .before .before .before .before .before .before .before .before .pre) _ _
     (rw (e .before .settle .ensures, e .enter .ensures, n .numbers-found2 .ensures, n .before .asks .ensures, e .before .before .sources .ensures, e .before .before .before .inputs .ensures, e .before .before .before .before .before .base-of .ensures, e .before .before .before .before .at .ensures, n .before .before .numbers-found .ensures, n .before .before .before .level-ask .ensures)
     at (c .before .before .before .before .play .ensures))
 

@@ -1,5 +1,5 @@
 -- `engine::turn::Turn::take` meets its contract: the output's kind picks the pool that is written, in the code and in the definition. Assumes nothing.
-use Rattle.engine.proofs.Turns.{ready-at, turned-at}
+use Rattle.engine.proofs.turn.Turns.{ready-at, turned-at}
 use borrow.Author.Needs.{needs}
 use Rattle.engine.proofs.turn.Turn.take.Statement.{statement}
 use Rattle.engine.proofs.turn.Turn.take.Tie as tie

@@ -3,7 +3,7 @@
 use borrow.Author.Needs.{needs}
 use Rattle.magnetron.specs.Buffers.{staleAt}
 use Rattle.magnetron.specs.declared.buffer.BufferIndex.the-variants.{External, Internal}
-use Rattle.magnetron.proofs.Absent.{no-mark}
+use Rattle.magnetron.proofs.buffer.Absent.{no-mark}
 use Rattle.magnetron.proofs.buffer.Marks.at.Statement.{statement}
 use Rattle.magnetron.proofs.buffer.Marks.at.Tie as tie
 

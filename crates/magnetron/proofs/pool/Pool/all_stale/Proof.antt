@@ -7,9 +7,9 @@ use Prim.Native.Nat.{_-_}
 use native.Mathlib.Omega.{arith}
 use lib.ListN.{length, set}
 use borrow.Author.Needs.{needs}
+use Rattle.answers.proofs.Filling.{Filling, filling-start, filling-more, filling-end}
 use Rattle.magnetron.specs.Pools.{marked}
 use Rattle.magnetron.specs.declared.pool.Pool.{Pool}
-use Rattle.magnetron.proofs.Filling.{Filling, filling-start, filling-turn, filling-end}
 use Rattle.magnetron.proofs.pool.Pool.all_stale.Statement.{statement}
 use Rattle.magnetron.proofs.pool.Pool.all_stale.Tie as tie
 
@@ -34,7 +34,7 @@ loop-less c = omega arith
 loop-again : tie.Need-loop-again Inv-loop μ-loop
 loop-again c =
     let long : length (c .before .before .args .t1 .stale) ≡ 16 = search needs in
-    (filling-turn _ _ _ _ _ (c .loop-test .taken) (omega arith) (c .before .loop .inv .0), ap (λ (p : Pool). marked p (set (c .before .loop .self .stale) (c .before .loop .i) true)) (c .before .loop .inv .1))
+    (filling-more _ _ _ _ _ (c .loop-test .taken) (omega arith) (c .before .loop .inv .0), ap (λ (p : Pool). marked p (set (c .before .loop .self .stale) (c .before .loop .i) true)) (c .before .loop .inv .1))
 
 returns : tie.Need-returns Inv-loop μ-loop
 returns c =

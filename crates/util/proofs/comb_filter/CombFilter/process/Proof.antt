@@ -2,12 +2,12 @@
 use mathlib.Core.Path.{ap}
 use native.Mathlib.Omega.{arith}
 use denote.Ref.{now}
-use Rattle.magnetron.proofs.Tests.{holds, fails}
+use Rattle.answers.proofs.Tests.{holds, fails}
 use Rattle.util.specs.DelayLine.{readingOf}
 use Rattle.util.specs.Interaction.{anyInteraction}
 use Rattle.util.specs.Comb.{combed, combOver, told}
 use Rattle.util.proofs.Ring.{within}
-use Rattle.util.proofs.Comb.{comb-is}
+use Rattle.util.proofs.comb_filter.Comb.{comb-is}
 use borrow.Author.Needs.{needs}
 use Rattle.util.proofs.comb_filter.CombFilter.process.Statement.{statement}
 use Rattle.util.proofs.comb_filter.CombFilter.process.Tie as tie
@@ -15,9 +15,12 @@ use Rattle.util.proofs.comb_filter.CombFilter.process.Tie as tie
 in-ring-requires : tie.Need-in-ring-requires
 in-ring-requires c κs = search needs
 
+refusal-requires : tie.Need-refusal-requires
+refusal-requires c κs = search needs
+
 returns : tie.Need-returns
 unfolding combed
-returns c = simp (fails (c .before .in-ring .ensures) (c .if1 .taken))
+returns c = simp (fails (c .before .before .in-ring .ensures) (c .before .if1 .taken), c .refusal .ensures)
 
 slot-after-requires : tie.Need-slot-after-requires
 slot-after-requires c κs = within _ _ (c .before .in-ring .ensures) (c .if1 .left) .below
@@ -37,21 +40,25 @@ mul-ring c = search needs
 slice-write-ring : tie.Need-slice-write-ring
 slice-write-ring c = search needs
 
+done-requires : tie.Need-done-requires
+done-requires c κs = search needs
+
 same-length : tie.Need-same-length
 same-length c = search needs
 
 returns-2 : tie.Need-returns-2
 unfolding combed
 returns-2 c =
-    let a = c .before .before .before .before .before .before .before .before .before .args in
-    simp (holds (c .before .before .before .before .before .before .before .in-ring .ensures) (c .before .before .before .before .before .before .if1 .left))
-    (ap told (comb-is anyInteraction anyInteraction (readingOf (a .read)) (combOver (a .self) (now (a .ring))) (a .input) (c .before .before .before .before .before .slot-after .ensures .0) (c .before .before .before .delayed-sample .ensures) (c .before .before .process-sample .ensures) (c .process-sample2 .ensures)))
+    let a = c .before .before .before .before .before .before .before .before .before .before .args in
+    simp (holds (c .before .before .before .before .before .before .before .before .in-ring .ensures) (c .before .before .before .before .before .before .before .if1 .left), c .done .ensures)
+    (ap told (comb-is anyInteraction anyInteraction (readingOf (a .read)) (combOver (a .self) (now (a .ring))) (a .input) (c .before .before .before .before .before .before .slot-after .ensures .0) (c .before .before .before .before .delayed-sample .ensures) (c .before .before .before .process-sample .ensures) (c .before .process-sample2 .ensures)))
 
 pub process-spec : {M : Type 1} → statement M
 process-spec =
     tie.close
     (tie.spec
     in-ring-requires
+    refusal-requires
     returns
     slot-after-requires
     delayed-sample-requires
@@ -59,5 +66,6 @@ process-spec =
     process-sample-requires-2
     mul-ring
     slice-write-ring
+    done-requires
     same-length
     returns-2)

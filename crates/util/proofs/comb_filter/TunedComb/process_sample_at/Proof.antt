@@ -3,7 +3,7 @@ use denote.Ref.{now}
 use Rattle.util.specs.DelayLine.{delayedBy}
 use Rattle.util.specs.Interaction.{lowPassGain, softClip}
 use Rattle.util.specs.Comb.{tunedOver}
-use Rattle.util.proofs.Comb.{comb-is}
+use Rattle.util.proofs.comb_filter.Comb.{comb-is}
 use borrow.Author.Needs.{needs}
 use Rattle.util.proofs.comb_filter.TunedComb.process_sample_at.Statement.{statement}
 use Rattle.util.proofs.comb_filter.TunedComb.process_sample_at.Tie as tie
@@ -11,8 +11,8 @@ use Rattle.util.proofs.comb_filter.TunedComb.process_sample_at.Tie as t
 slot-after-requires : tie.Need-slot-after-requires
 slot-after-requires c κs = search needs
 
-heard-at-requires : tie.Need-heard-at-requires
-heard-at-requires c κs = search needs
+tap-at-requires : tie.Need-tap-at-requires
+tap-at-requires c κs = search needs
 
 process-sample-requires : tie.Need-process-sample-requires
 process-sample-requires c κs = search needs
@@ -32,14 +32,14 @@ same-length c = search needs
 returns : tie.Need-returns
 returns c =
     let a = c .before .before .before .before .before .before .before .before .before .before .before .args in
-    comb-is lowPassGain softClip (delayedBy (a .delay)) (tunedOver (a .self) (now (a .ring))) (a .input) (c .before .before .before .before .before .before .before .before .before .slot-after .ensures .0) (c .before .before .before .before .before .before .before .heard-at .ensures) (c .before .before .before .before .before .process-sample .ensures) (c .before .before .process-sample2 .ensures)
+    comb-is lowPassGain softClip (delayedBy (a .delay)) (tunedOver (a .self) (now (a .ring))) (a .input) (c .before .before .before .before .before .before .before .before .before .slot-after .ensures .0) (c .before .before .before .before .before .before .before .tap-at .ensures) (c .before .before .before .before .before .process-sample .ensures) (c .before .before .process-sample2 .ensures)
 
 pub process-sample-at-spec : {M : Type 1} → statement M
 process-sample-at-spec =
     tie.close
     (tie.spec
     slot-after-requires
-    heard-at-requires
+    tap-at-requires
     process-sample-requires
     process-sample-requires-2
     mul-ring

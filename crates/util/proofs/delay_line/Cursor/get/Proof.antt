@@ -1,7 +1,7 @@
 -- `util::delay_line::Cursor::get` meets its contract: the test of the code is that of the definition. Assumes nothing.
 use native.Mathlib.Omega.{arith}
-use Rattle.magnetron.proofs.Tests.{holds, fails}
-use Rattle.util.specs.DelayLine.{heard}
+use Rattle.answers.proofs.Tests.{holds, fails}
+use Rattle.util.specs.DelayLine.{tapped}
 use Rattle.util.proofs.Ring.{within}
 use borrow.Author.Needs.{needs}
 use Rattle.util.proofs.delay_line.Cursor.get.Statement.{statement}
@@ -10,16 +10,22 @@ use Rattle.util.proofs.delay_line.Cursor.get.Tie as tie
 in-ring-requires : tie.Need-in-ring-requires
 in-ring-requires c κs = search needs
 
+refusal-requires : tie.Need-refusal-requires
+refusal-requires c κs = search needs
+
 returns : tie.Need-returns
-unfolding heard
-returns c = simp (fails (c .before .in-ring .ensures) (c .if1 .taken))
+unfolding tapped
+returns c = simp (fails (c .before .before .in-ring .ensures) (c .before .if1 .taken), c .refusal .ensures)
+
+done-requires : tie.Need-done-requires
+done-requires c κs = search needs
 
 delayed-sample-requires : tie.Need-delayed-sample-requires
-delayed-sample-requires c κs = omega (arith, within _ _ (c .before .in-ring .ensures) (c .if1 .left))
+delayed-sample-requires c κs = omega (arith, within _ _ (c .before .before .in-ring .ensures) (c .before .if1 .left))
 
 returns-2 : tie.Need-returns-2
-unfolding heard
-returns-2 c = simp (holds (c .before .before .in-ring .ensures) (c .before .if1 .left), c .delayed-sample .ensures)
+unfolding tapped
+returns-2 c = simp (holds (c .before .before .before .in-ring .ensures) (c .before .before .if1 .left), c .before .done .ensures, c .delayed-sample .ensures)
 
 pub get-spec : {M : Type 1} → statement M
-get-spec = tie.close (tie.spec in-ring-requires returns delayed-sample-requires returns-2)
+get-spec = tie.close (tie.spec in-ring-requires refusal-requires returns done-requires delayed-sample-requires returns-2)

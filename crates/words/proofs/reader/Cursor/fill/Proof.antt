@@ -6,7 +6,7 @@ use native.Mathlib.Omega.{arith}
 use borrow.Author.Needs.{needs}
 use lib.ListN.{length, length-set}
 use Rattle.words.specs.Reader.{fillsOf, filledOf}
-use Rattle.words.proofs.Fill.{fill-more, fill-short, fill-done}
+use Rattle.words.proofs.reader.Fill.{fill-more, fill-short, fill-done}
 use Rattle.words.proofs.reader.Cursor.fill.Statement.{statement}
 use Rattle.words.proofs.reader.Cursor.fill.Tie as tie
 

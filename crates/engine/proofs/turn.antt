@@ -1,0 +1,2 @@
+-- Laws that the proofs of `engine::turn` alone cite.
+mod Turns

@@ -1,0 +1,2 @@
+-- Laws that the proofs of `flat::patch` alone cite.
+mod Naming

@@ -1,0 +1,2 @@
+-- What the proofs of `Marks` use.
+mod Absent

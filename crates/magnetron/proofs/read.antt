@@ -1,0 +1,2 @@
+-- What the proof of `read` uses.
+mod Reading

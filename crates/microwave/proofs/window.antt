@@ -1,0 +1,2 @@
+-- Laws that the proofs of `microwave::window` alone cite.
+mod Loops

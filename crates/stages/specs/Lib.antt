@@ -1,0 +1,5 @@
+-- What a reader must believe of stages: `Stage` has the kinds, `Rings` the stages of a patch by number and their rings.
+-- `Inside` has the words of the helpers between crates alone.
+pub mod Stage
+pub mod Rings
+pub mod Inside

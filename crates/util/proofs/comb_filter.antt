@@ -1,0 +1,2 @@
+-- What the proofs of both combs use.
+mod Comb

@@ -1,0 +1,2 @@
+-- Laws that the proofs of `words::number` alone cite.
+mod Nan

@@ -1,0 +1,3 @@
+-- Laws that the proofs of `words::writer` alone cite.
+mod Pouring
+mod Putting
