@@ -1,5 +1,5 @@
-//! The records that cross, as `crates/host`, `crates/flat`, `crates/engine` and `crates/magnetron` declare them, and the
-//! functions of the static library.
+//! The records that cross, as `crates/host`, `crates/flat`, `crates/stages`, `crates/magnetron` and `crates/answers`
+//! declare them, and the functions of the static library.
 
 /// `crates/flat` has the number's bits in the same eight bytes.
 #[derive(Clone, Copy, Default)]
