@@ -39,6 +39,8 @@ formOf kind =
       parameters = getD parameters kind 0;
     }
 
--- there are fourteen kinds
+abbrev pub kindCount : ℕ
+kindCount = 14
+
 abbrev pub formedOf : ℕ → Formed
-formedOf kind = cond (ltb kind 14) (formed.Form (formOf kind)) formed.Unknown
+formedOf kind = cond (ltb kind kindCount) (formed.Form (formOf kind)) formed.Unknown

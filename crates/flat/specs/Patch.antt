@@ -30,8 +30,8 @@ unfoldable pub known : Named → Bool
 known (named.Stage t) = true
 known named.Unknown = false
 
--- what stands where there are no numbers of a stage, as past the end of a list of stages: zeros
-abbrev noParameter : FlatParameter
+-- what stands where there are no numbers of a parameter or of a stage, as past the end of a list of stages: zeros
+abbrev pub noParameter : FlatParameter
 noParameter = record { mark = 0; slot = 0; bits = 0 }
 
 abbrev pub noFlat : FlatStage

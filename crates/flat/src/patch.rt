@@ -10,7 +10,7 @@ use stages::patch::Patch;
 use stages::stage::Stage;
 ghost use mathlib.Core.Path.{_≡_};
 ghost use Prim.Native.Nat.{_≤_};
-ghost use Rattle.flat.specs.Patch.{blankStage, noFlat, lookedAt, namedPatchOf};
+ghost use Rattle.flat.specs.Patch.{blankStage, noParameter, noFlat, lookedAt, namedPatchOf};
 
 // At most 32 stages; those from `count` on are not looked at.
 #[repr(C)]
@@ -38,15 +38,22 @@ fn blank_stage() -> Stage
     }
 }
 
+// What stands where there are no numbers of a parameter: zeros, which say that it is absent.
+pub fn no_parameter() -> FlatParameter
+    ensures { λ r. ⌜ r ≡ noParameter ⌝ }
+{
+    FlatParameter {
+        mark: 0,
+        slot: 0,
+        bits: 0,
+    }
+}
+
 // What stands where there are no numbers of a stage: zeros.
 pub fn no_flat() -> FlatStage
     ensures { λ r. ⌜ r ≡ noFlat ⌝ }
 {
-    let absent = FlatParameter {
-        mark: 0,
-        slot: 0,
-        bits: 0,
-    };
+    let absent = no_parameter();
     FlatStage {
         kind: 0,
         choice: 0,
