@@ -1,0 +1,3 @@
+-- Laws that the proofs of `files::patch` alone cite.
+mod Staging
+mod Ending

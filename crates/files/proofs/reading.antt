@@ -1,0 +1,3 @@
+-- Laws that the proofs of `files::reading` alone cite.
+mod Eight
+mod Groups

@@ -1,0 +1,2 @@
+-- Laws that the proofs of `files::stage` alone cite.
+mod Known
