@@ -1,9 +1,9 @@
 /* The engine as a static library: what `rt staticlib host` exports, for C on x86-64. Of C it calls memcpy and memset alone.
  *
  * Records go by value and come back by value: what comes back is what to pass next time. A ring's cursor alone is changed where it stands.
- * Samples, zeros, rings, values and the order are lent, each as a pointer and a count of elements. A pointer is used during the call and
- * never after it; nothing is kept between calls and nothing is allocated, so that engines with slices of their own may run at the same
- * time. The records are large (a patch has 4,872 bytes, the states 2,816) and stand on the stack.
+ * Samples, zeros, rings, values, the order and a file's bytes are lent, each as a pointer and a count of elements. A pointer is used during
+ * the call and never after it; nothing is kept between calls and nothing is allocated, so that engines with slices of their own may run at
+ * the same time. The records are large (a patch has 4,872 bytes, the states 2,816) and stand on the stack.
  *
  * Every input gets an answer, and what each function answers is proved for any input; see crates/host/specs. A refusal says why by its
  * number and changes nothing: the records come back as they were passed, and no lent sample is touched. One thing is left to the caller: to
@@ -160,6 +160,29 @@ typedef struct {
     size_t count;
     grynnadot_stage stages[32];
 } grynnadot_patch;
+
+/* ---- patch files: a patch as an editor hands it over, in bytes; docs/PATCH-FILES.md has their form */
+
+/* 0 with offset 0 and the patch; or why the bytes were refused, at the first fault in reading order:
+ *     20  the bytes end early
+ *     21  the version is not 1
+ *     22  a stage's kind, a choice or a parameter's mark is unknown
+ *     23  a number is too large, or longer than five bytes
+ *     24  bytes are left over
+ *     25  there are more than 32 stages
+ * The offset is then where the number, the eight bytes or the leftover at fault begins, and the patch is the empty one, all zero. */
+typedef struct {
+    size_t number;
+    size_t offset;
+    grynnadot_patch patch;
+} grynnadot_read;
+
+/* The patch of a file whose bytes are lent. It goes to grynnadot_run as it is, which judges buffers, sizes, slots and absences:
+ *
+ *     const grynnadot_read read = grynnadot_read_patch(bytes, bytes_count);
+ *     if (read.number != 0) fprintf(stderr, "refused: %zu at %zu\n", read.number, read.offset);
+ *     else ran = grynnadot_run(read.patch, order, read.patch.count, pools, ...); */
+grynnadot_read grynnadot_read_patch(const uint8_t *bytes, size_t bytes_count);
 
 /* ---- what a stage remembers from window to window: room for every kind, of which a run changes its own kind's part only */
 

@@ -17,6 +17,7 @@ use Rattle.util.specs.declared.delay_line.Cursor.{Cursor}
 use Rattle.util.proofs.Determined.{Lent, lent-determined}
 use Rattle.host.specs.Host.{flatAfterWrite, flatAfter}
 use Rattle.host.proofs.cursor.grynnadot_advance as advance
+use Rattle.host.proofs.file.grynnadot_read_patch.Reads as read-patch
 use Rattle.host.proofs.pools.grynnadot_new_pool.Reads as new-pool
 use Rattle.host.proofs.pools.grynnadot_prepare.Reads as prepare
 use Rattle.host.proofs.pools.grynnadot_check_read.Reads as check-read
@@ -31,6 +32,9 @@ pub pools-determined : Determined (λ r s. outcome r (now (s .1 .1 .0))) new-poo
     × Determined (λ r s. flatAfterWrite r (now (s .1 .0)) (now (s .1 .1 .0))) read-1-write-1.Post
     × Determined (λ r s. flatAfterWrite r (now (s .1 .0)) (now (s .1 .1 .0))) read-2-write-1.Post
 pools-determined = (by-definition, by-definition, by-definition, by-definition, by-definition, by-definition)
+
+pub file-determined : Answer read-patch.Post
+file-determined = by-definition
 
 pub states-determined : Answer new-states.Post
 states-determined = by-definition
