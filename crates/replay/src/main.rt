@@ -1,5 +1,6 @@
 // For tests. Words in, words out: reads cases on standard input until it ends, and writes their answers on standard output. FORMAT.md beside this
-// folder defines both. Rests on `stream` for the words; sort 1 is answered here, the others by `operations`.
+// folder defines both. Rests on `stream` for the words; sorts 1 and 10 are answered here, the others by `operations`.
+mod patch_file;
 mod session;
 mod window;
 
@@ -19,6 +20,7 @@ fn main() {
     let mut external = [0.0; 65536];
     let mut zeros = [0.0; 8192];
     let mut rings = [0.0; 131072];
+    let mut file = [0u8; 65536];
     answer_all(
         &mut input,
         &mut output,
@@ -26,6 +28,7 @@ fn main() {
         &mut external,
         &mut zeros,
         &mut rings,
+        &mut file,
     );
 }
 
@@ -38,12 +41,13 @@ fn answer_all(
     external: &mut Samples,
     zeros: &mut Zeros,
     rings: &mut Cells,
+    file: &mut Buffer,
 ) {
     let mut place = Place::start();
     let mut turns = u64::MAX;
     while turns > 0 {
         turns -= 1;
-        place = answer_next(place, input, output, internal, external, zeros, rings);
+        place = answer_next(place, input, output, internal, external, zeros, rings, file);
         if place.over {
             finish(place, output);
             return;
@@ -60,6 +64,7 @@ fn answer_next(
     external: &mut Samples,
     zeros: &mut Zeros,
     rings: &mut Cells,
+    file: &mut Buffer,
 ) -> Place {
     let next = place.next_case(input, output);
     let after = next.place;
@@ -81,6 +86,7 @@ fn answer_next(
             zeros,
             rings,
         ),
+        10 => patch_file::answer(after, input, output, file),
         _ => after.refused(),
     }
 }

@@ -4,10 +4,10 @@ use Rattle.replay.proofs.answer_all.Statement.{statement}
 use Rattle.replay.proofs.answer_all.Tie as tie
 
 abbrev Inv-loop : tie.InvT-loop
-Inv-loop input₀ output₀ internal₀ external₀ zeros₀ rings₀ place₀ turns₀ input output internal external zeros rings place turns = Unit
+Inv-loop input₀ output₀ internal₀ external₀ zeros₀ rings₀ file₀ place₀ turns₀ input output internal external zeros rings file place turns = Unit
 
 abbrev μ-loop : tie.MeasureT-loop
-μ-loop input₀ output₀ internal₀ external₀ zeros₀ rings₀ place₀ turns₀ input output internal external zeros rings place turns = turns
+μ-loop input₀ output₀ internal₀ external₀ zeros₀ rings₀ file₀ place₀ turns₀ input output internal external zeros rings file place turns = turns
 
 start-requires : tie.Need-start-requires Inv-loop μ-loop
 start-requires c κs = search needs

@@ -1,0 +1,40 @@
+"""Sort 10: patch files at the edges of document 02's format, with the stages of sessions.py."""
+import struct
+from sessions import kinds
+from words import NANS
+
+# absent, a fixed NaN that has all its bits set, a slot of two bytes, the window's seconds
+PARAMETERS = [b'\0', b'\1' + struct.pack('<Q', NANS[-1]), b'\2\x80\1', b'\3']
+# short ones at which versions, choices, marks, kinds and counts end; of each length, padded, too large, too long, cut short
+NUMBERS = ['00', '01', '02', '03', '04', '05', '0d', '0e', '1f', '20', '21', '7f', '8001', 'ffff7f', '80808001', 'ffffffff0f', '8000', '81808000',
+           '8080808000', '8080808010', 'ffffffff1f', '8080808080', '8080808080808000', '80', 'ffffffff']
+# a modulated oscillator with a slot in phase: its version, count, kind, both choices, input, output, marks and the slot are numbers
+NUMBERED = bytes([1, 1, 11, 4, 1, 1, 0, 0, 3, 2, 9])
+MOST_STAGES, PASS = 32, bytes([0, 1, 0, 0])
+
+
+def stages():
+    """every kind with each of its choices; after four turns each parameter has had each mark"""
+    for stage, count, _ in kinds():
+        for turn in range(len(PARAMETERS)):
+            yield bytes(stage) + b''.join(PARAMETERS[(turn + k) % len(PARAMETERS)] for k in range(count + 1))
+
+
+def files():
+    patches = [b'\1\1' + stage for stage in stages()]
+    yield from patches
+    longest = max(patches, key=len)
+    yield from (longest[:length] for length in range(len(longest)))
+    for at in range(len(NUMBERED)):
+        yield from (NUMBERED[:at] + bytes.fromhex(number) + NUMBERED[at + 1:] for number in NUMBERS)
+        yield from (NUMBERED[:at] + bytes.fromhex(number) for number in NUMBERS)
+    for patch in (b'\1\0', longest):
+        yield from (patch + bytes([length]) * length for length in range(1, 10))
+    for count in (MOST_STAGES - 1, MOST_STAGES, MOST_STAGES + 1):
+        yield from (bytes([1, count]) + PASS * there for there in (0, count - 1, count, count + 1))
+
+
+def cases():
+    for file in files():
+        words = -(-len(file) // 8)
+        yield [10, len(file), *struct.unpack(f'<{words}Q', file.ljust(8 * words, b'\xff'))]
