@@ -52,12 +52,15 @@ impl Answer {
         samples.iter().for_each(|&sample| self.sample(sample));
     }
 
-    /// The number and the stage of an outcome.
     pub fn verdict(&mut self, verdict: Verdict) {
-        self.part("number, stage");
-        let [number, stage] = refusals::outcome(verdict);
-        self.words.extend([number, stage]);
-        self.tally.outcomes[number as usize] += 1;
+        self.outcome("number, stage", refusals::outcome(verdict));
+    }
+
+    /// A refusal's number, or 0, and where it is at fault.
+    pub fn outcome(&mut self, name: &'static str, outcome: [u64; 2]) {
+        self.part(name);
+        self.words.extend(outcome);
+        *self.tally.outcomes.entry(outcome[0]).or_default() += 1;
     }
 
     pub fn activity(&mut self, activity: StageActivity) {

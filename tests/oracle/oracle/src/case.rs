@@ -12,6 +12,7 @@ use crate::parts::Numbers;
 use crate::parts::Prepare;
 use crate::parts::Ring;
 use crate::parts::Single;
+use crate::patch_file::PatchFile;
 use crate::session::Session;
 use crate::values::Values;
 use crate::words::Pass;
@@ -86,7 +87,7 @@ macro_rules! sorts {
     };
 }
 
-sorts!(1 Session, 2 Numbers, 3 Ring, 4 Clips, 5 LowPass, 6 Comb, 7 AllPass, 8 Single, 9 Prepare);
+sorts!(1 Session, 2 Numbers, 3 Ring, 4 Clips, 5 LowPass, 6 Comb, 7 AllPass, 8 Single, 9 Prepare, 10 PatchFile);
 
 impl Case {
     /// The next case of a stream, or nothing where it has ended.

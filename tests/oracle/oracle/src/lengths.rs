@@ -13,3 +13,6 @@ pub const MOST_VALUES: u64 = 64;
 pub const MOST_CELLS: u64 = 131_072;
 
 pub const MOST_ORDER: u64 = 64;
+
+/// Bytes of a patch file.
+pub const MOST_FILE: u64 = 65_536;

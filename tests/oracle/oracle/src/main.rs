@@ -4,6 +4,8 @@ mod answer;
 mod case;
 mod compare;
 mod differences;
+mod families;
+mod files;
 mod laid;
 mod lengths;
 mod listed;
@@ -12,6 +14,7 @@ mod options;
 mod orders;
 mod panics;
 mod parts;
+mod patch_file;
 mod pools;
 mod program;
 mod random;
@@ -51,6 +54,7 @@ oracle show < CASES
 oracle measure-sine
 oracle compare ASKED [--cases N] [--seed N] [--sort S]
 oracle differences ASKED [--inputs]
+oracle files ASKED
 oracle refused ASKED [--sort S]
 oracle orders ASKED [--cases N] [--seed N]
 where ASKED is [--replay PROGRAM] [--start PROGRAM] [--failing FILE]";
@@ -83,6 +87,7 @@ fn run() -> Result<bool, Box<dyn Error>> {
         "measure-sine" => Ok(measure::measure_sine()),
         "compare" => compare(Options::new(words, &[&ASKED[..], &["cases", "seed", "sort"]].concat(), &[])?),
         "differences" => differences(Options::new(words, &ASKED, &["inputs"])?),
+        "files" => files::run(&asked(&Options::new(words, &ASKED, &[])?)?),
         "orders" => orders(Options::new(words, &[&ASKED[..], &["cases", "seed"]].concat(), &[])?),
         "refused" => refused(Options::new(words, &[&ASKED[..], &["sort"]].concat(), &[])?),
         _ => Err(USAGE.into()),

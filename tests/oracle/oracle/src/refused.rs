@@ -5,57 +5,31 @@ use std::error::Error;
 
 use crate::case::Case;
 use crate::compare::Compare;
-use crate::compare::Report;
+use crate::families;
+use crate::families::Family;
 use crate::panics;
 use crate::refusals;
 use crate::session::Session;
 use crate::session::Window;
 use crate::session::parameter::Parameter;
 use crate::small;
-
-/// How many there are of each number.
-type Numbers = [u64; 8];
+use crate::tally::Numbers;
 
 /// Whether all is as document 01's table says. For one sort of cases the program alone is asked.
 pub fn run(compare: &Compare, sort: Option<u64>) -> Result<bool, Box<dyn Error>> {
-    let mut columns = Vec::new();
-    for Family { name, sorts, cases } in FAMILIES {
-        if sort.is_some_and(|sort| !sorts.contains(&sort)) {
-            continue;
-        }
-        let mut report = Report::default();
-        if let Some(different) = compare.first_different(cases(), &mut report)? {
-            println!("{different}");
-            return Ok(false);
-        }
-        columns.push((name, report.tally.outcomes));
-    }
+    let asked_for = |family: &Family| sort.is_none_or(|sort| family.sorts.contains(&sort));
+    let Some(mut columns) = families::ask(compare, FAMILIES.into_iter().filter(asked_for))? else {
+        return Ok(false);
+    };
     if sort.is_none() {
         let Some([asked, panicked]) = ask_the_rust() else {
             return Ok(false);
         };
         columns.extend([("asked of Rust", asked), ("it panics", panicked)]);
     }
-    print_table(&columns);
+    families::print_table(&columns);
     println!("every number, every stage and all that was lent as the table says\n");
     Ok(true)
-}
-
-fn print_table(columns: &[(&str, Numbers)]) {
-    print!("refusal");
-    columns.iter().for_each(|(name, _)| print!("{name:>15}"));
-    for number in 0..8 {
-        print!("\n{number:7}");
-        columns.iter().for_each(|(_, numbers)| print!("{:>15}", numbers[number]));
-    }
-    println!();
-}
-
-/// Small cases of one or several sorts, which have a column of the table.
-struct Family {
-    name: &'static str,
-    sorts: &'static [u64],
-    cases: fn() -> Box<dyn Iterator<Item = Case>>,
 }
 
 const FAMILIES: [Family; 4] = [
@@ -68,7 +42,7 @@ const FAMILIES: [Family; 4] = [
 /// Has the Rust do all runs, reads and writes that tell something, and counts at how many it panics. Nothing where it does
 /// otherwise than expected.
 fn ask_the_rust() -> Option<[Numbers; 2]> {
-    let mut counts = [[0; 8]; 2];
+    let mut counts = [Numbers::new(), Numbers::new()];
     for session in small::sessions() {
         for window in &session.windows {
             if let Some((number, place)) = attempt(&session, window) {
@@ -87,8 +61,8 @@ fn ask_the_rust() -> Option<[Numbers; 2]> {
 
 /// The Rust is to panic, in its own buffers, just where the number isn't 0.
 fn expect(number: u64, place: Option<String>, counts: &mut [Numbers; 2], show: impl FnOnce() -> String) -> Option<()> {
-    counts[0][number as usize] += 1;
-    counts[1][number as usize] += u64::from(place.is_some());
+    *counts[0].entry(number).or_default() += 1;
+    *counts[1].entry(number).or_default() += u64::from(place.is_some());
     let expected = match &place {
         None => number == 0,
         Some(place) => number != 0 && place.starts_with("magnetron/"),

@@ -2,14 +2,17 @@
 
 use std::collections::BTreeMap;
 
+/// How many there are of each number.
+pub type Numbers = BTreeMap<u64, u64>;
+
 /// Samples by their class, things in their circumstances, and crossings of several circumstances.
 #[derive(Default)]
 pub struct Tally {
     samples: [u64; CLASSES.len()],
     pub met: BTreeMap<(&'static str, &'static str), u64>,
     pub crossed: BTreeMap<[&'static str; 4], u64>,
-    /// How many outcomes there were of each number.
-    pub outcomes: [u64; 8],
+    /// The outcomes by their number.
+    pub outcomes: Numbers,
     /// How many samples stages have put out.
     pub rendered: u64,
 }
@@ -44,7 +47,7 @@ impl Tally {
         self.samples.iter_mut().zip(other.samples).for_each(|(sum, count)| *sum += count);
         other.met.into_iter().for_each(|(thing, count)| *self.met.entry(thing).or_default() += count);
         other.crossed.into_iter().for_each(|(thing, count)| *self.crossed.entry(thing).or_default() += count);
-        self.outcomes.iter_mut().zip(other.outcomes).for_each(|(sum, count)| *sum += count);
+        other.outcomes.into_iter().for_each(|(number, count)| *self.outcomes.entry(number).or_default() += count);
         self.rendered += other.rendered;
     }
 }

@@ -54,12 +54,11 @@ impl Compare {
         mut cases: impl Iterator<Item = Case>,
         report: &mut Report,
     ) -> Result<Option<String>, Failed> {
-        loop {
-            let stream = batch(&mut cases);
-            if stream.is_empty() {
-                return Ok(None);
-            }
-            let (said, answers) = self.ask(&stream)?;
+        let mut stream = batch(&mut cases);
+        while !stream.is_empty() {
+            // The next cases are made while the program is at these.
+            let (said, (answers, next)) = self.program.ask(&stream, || (answer_all(&stream), batch(&mut cases)))?;
+            let answers = answers?;
             let different = first_difference(&answers.answer, &said);
             let ends = answers.parts.iter().map(|part| part.1);
             let place = different.map(|word| ends.take_while(|&end| end <= word).count());
@@ -67,7 +66,9 @@ impl Compare {
             if let Some(place) = place {
                 return self.explain(&stream, place).map(Some);
             }
+            stream = next;
         }
+        Ok(None)
     }
 
     /// What the program says to a stream, and what the Rust answers.
@@ -130,11 +131,9 @@ fn answer_all(stream: &[u8]) -> Result<Answers, String> {
 
 /// The first word in which the program's output is not the answer.
 fn first_difference(answer: &Answer, said: &Said) -> Option<usize> {
-    let ours: Vec<u8> = answer.words().iter().flat_map(|word| word.to_le_bytes()).collect();
-    let pairs = ours.iter().zip(&said.output);
-    let byte = pairs.clone().position(|(our, their)| our != their);
-    let byte = byte.or((ours.len() != said.output.len()).then_some(pairs.len()));
-    byte.map(|byte| byte / 8)
+    let ours = answer.words();
+    let different = ours.iter().zip(said.words()).position(|(our, their)| *our != their);
+    different.or((8 * ours.len() != said.output.len()).then_some(ours.len().min(said.output.len() / 8)))
 }
 
 fn describe(answer: &Answer, said: &Said) -> String {
@@ -147,5 +146,5 @@ fn describe(answer: &Answer, said: &Said) -> String {
         Some(word) => format!("{word:016x} ({:?})", f64::from_bits(word)),
     });
     let ended = if said.status.success() { String::new() } else { format!("; it ended with {}", said.status) };
-    format!("{}: the Rust {ours}, the program {theirs}{ended}", answer.place(place))
+    format!("{}: the oracle {ours}, the program {theirs}{ended}", answer.place(place))
 }

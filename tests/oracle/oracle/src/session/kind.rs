@@ -90,6 +90,16 @@ impl Pass for Kind {
 }
 
 impl Kind {
+    /// How many there are to choose from, for each of its choices.
+    pub fn choices(&self) -> &'static [usize] {
+        match self {
+            Kind::Oscillator(_) => const { &[WAVEFORMS.len()] },
+            Kind::ModulatedOscillator(..) => const { &[WAVEFORMS.len(), MODULATIONS.len()] },
+            Kind::Waveguide(..) => const { &[REFLECTANCES.len()] },
+            _ => &[],
+        }
+    }
+
     /// How many buffers it reads.
     pub fn inputs(&self) -> usize {
         match self {

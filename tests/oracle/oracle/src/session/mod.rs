@@ -15,6 +15,7 @@ pub use coverage::PARAMETERS;
 pub use coverage::WINDOWS;
 use kind::Kind;
 use parameter::Parameter;
+pub use show::show_stage;
 
 use crate::answer::Answer;
 use crate::answer::Answered;

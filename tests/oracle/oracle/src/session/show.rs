@@ -27,7 +27,7 @@ fn show_buffer(buffer: &Buffer) -> String {
     format!("{} {}", if buffer.external { "external" } else { "internal" }, buffer.index)
 }
 
-fn show_stage(stage: &Stage) -> String {
+pub fn show_stage(stage: &Stage) -> String {
     let inputs: Vec<_> = stage.inputs.iter().map(show_buffer).collect();
     let size = stage.kind.buffer_size().map_or(String::new(), |size| format!(" of {size}"));
     let parameters = stage.kind.roles().iter().zip(&stage.parameters).map(|(role, parameter)| match parameter {

@@ -2,6 +2,7 @@
 //! stage, and what stands at the bounds. tests/oracle/README.md has a table of what is enumerated.
 
 mod bounds;
+pub mod files;
 mod orders;
 mod parameters;
 pub mod parts;
