@@ -8,6 +8,7 @@
 
 /* As large as the library takes them. */
 _Static_assert(sizeof(grynnadot_patch) == 4872, "patch");
+_Static_assert(sizeof(grynnadot_read) == 4888, "read");
 _Static_assert(sizeof(grynnadot_pools) == 72, "pools");
 _Static_assert(sizeof(grynnadot_states) == 2816, "states");
 _Static_assert(sizeof(grynnadot_ran) == 2912, "ran");
