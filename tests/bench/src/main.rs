@@ -1,6 +1,7 @@
 //! The engine of the static library beside the supplied Rust, in one process: first that both give the same bits, then how long
 //! each takes. Prints tables in Markdown.
 
+mod files;
 mod records;
 mod sides;
 mod stages;
@@ -175,5 +176,6 @@ fn main() {
     if what == "all" {
         fixed(budget);
         writes(budget);
+        files::table(budget);
     }
 }

@@ -100,8 +100,17 @@ pub struct Prepared {
     pub pools: Pools,
 }
 
+#[derive(Clone, Copy)]
+#[repr(C)]
+pub struct Read {
+    pub number: usize,
+    pub offset: usize,
+    pub patch: FlatPatch,
+}
+
 #[rustfmt::skip]
 unsafe extern "C" {
+    pub fn grynnadot_read_patch(bytes: *const u8, bytes_len: usize) -> Read;
     pub fn grynnadot_new_states() -> States;
     pub fn grynnadot_run(
         patch: FlatPatch, order: *const u8, order_len: usize, pools: Pools, states: States, n: usize, width: f64,
