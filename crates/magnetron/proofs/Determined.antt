@@ -21,6 +21,11 @@ use Rattle.magnetron.proofs.check.has.Reads as has
 use Rattle.magnetron.proofs.check.all_there.Reads as all-there
 use Rattle.magnetron.proofs.inputs.is_input.Reads as is-input
 use Rattle.magnetron.proofs.check.no_clash.Reads as no-clash
+use Rattle.magnetron.proofs.outputs.Outputs.there.Reads as there
+use Rattle.magnetron.proofs.outputs.Outputs.differ.Reads as differ
+use Rattle.magnetron.proofs.outputs.Outputs.clear_of.Reads as clear-of
+use Rattle.magnetron.proofs.outputs.Outputs.clear.Reads as clear-outputs
+use Rattle.magnetron.proofs.outputs.Outputs.louder.Reads as louder
 use Rattle.magnetron.proofs.check.check_prepare.Reads as check-prepare
 use Rattle.magnetron.proofs.source.source_of.Reads as source-of
 use Rattle.magnetron.proofs.source.fetch.Reads as fetch
@@ -48,6 +53,9 @@ check-determined = (by-definition, by-definition, by-definition, by-definition, 
 
 pub inputs-determined : Answer is-input.Post
 inputs-determined = by-definition
+
+pub outputs-determined : Answer there.Post × Answer differ.Post × Answer clear-of.Post × Answer clear-outputs.Post × Answer louder.Post
+outputs-determined = (by-definition, by-definition, by-definition, by-definition, by-definition)
 
 pub source-determined : Answer source-of.Post × Answer fetch.Post
 source-determined = (by-definition, by-definition)

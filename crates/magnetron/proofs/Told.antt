@@ -3,7 +3,7 @@
 --     held, zeros-lent        checks 1 and 2, as facts
 --     all-there, Room, room, base-small     check 5: a buffer has a mark, n of its samples lie in its pool, and its place is a small number
 --     capacity-at, fits, line-is      the capacities of the shape, and what a buffer holds
---     apart-from              check 7 of one input
+--     apart-from              check 7 of one output and one input
 --     place-own, clear-source     the output lies in its pool, and an input clear of it
 --     heard-source, heard-at  what the loop reads is what the definition hears
 --     write-own               what the loop leaves is the definition's write
@@ -11,7 +11,7 @@
 use mathlib.Core.Path.{_≡_, refl, sym, ap, subst, _∙_}
 use mathlib.Core.Logic.{inl, inr}
 use mathlib.Core.Bool.{Bool, true, false, not, _&&_, _||_, cond, false≢true, true≢false, or-true}
-use mathlib.Core.List.{List, [], _∷_}
+use mathlib.Core.List.{List, _∷_}
 use Prim.Native.Nat.{ℕ, _+_, _*_, _<_, _≤_}
 use native.Mathlib.Omega.{arith}
 use lib.Dec.{leb, eqb}
@@ -21,8 +21,8 @@ use borrow.Author.Tests.{leb-true, ltb-true, eqb-true, ne-eqb}
 use Rattle.numbers.specs.Constants.{zero64}
 use Rattle.numbers.specs.Zeros.{allPlusZero}
 use Rattle.order.specs.Order.{Among}
-use Rattle.answers.proofs.Tests.{and-left, and-right, or-other}
-use Rattle.magnetron.specs.Buffers.{indexOf, pick, samePool, sameBuffer, Shape, capacityAt, bankAt, marksAt, lineAt, lineOf, withLineAt, withLine, heard, laid, write, staleAt, cleared, hits}
+use Rattle.answers.proofs.Tests.{fails, and-left, and-right, or-other, or-false-left, or-false-right}
+use Rattle.magnetron.specs.Buffers.{indexOf, pick, samePool, sameBuffer, Shape, capacityAt, bankAt, marksAt, lineAt, lineOf, withLineAt, withLine, heard, laid, write, staleAt, cleared, hits, clash}
 use Rattle.magnetron.specs.Pools.{poolAt, baseOf, shapeOf, banksOf, sided}
 use Rattle.magnetron.specs.Checks.{poolOk, shapeOk, windowOk, hasBuffer, allThere, noClash}
 use Rattle.magnetron.specs.Inside.Source.{signalOf, sourceOf, Apart, Clear}
@@ -146,18 +146,23 @@ hits-among o b (x ∷ ins) (inl q) e = ap (λ (t : Bool). t || hits o ins) (ap (
 hits-among o b (x ∷ ins) (inr m) e = ap (λ (t : Bool). sameBuffer o x || t) (hits-among o b ins m e) ∙ or-true (sameBuffer o x)
 
 -- no sample in play, or the input is another buffer, or the output is stale
-pub ApartFrom : Marks → ℕ → BufferIndex → BufferIndex → Type 0
+unfoldable pub ApartFrom : Marks → ℕ → BufferIndex → BufferIndex → Type 0
 ApartFrom m n o b = 0 < n → o ≡ b → staleAt o m ≡ true
 
-pub apart-from : (m : Marks) (n : ℕ) (ins : List BufferIndex) (o b : BufferIndex) → Among b ins → noClash n ins (o ∷ []) m ≡ true → ApartFrom m n o b
+clash-at : (ins os : List BufferIndex) (m : Marks) (o : BufferIndex) → Among o os → clash ins os m ≡ false → (hits o ins && not (staleAt o m)) ≡ false
+clash-at ins (x ∷ os) m o (inl q) e = ap (λ (c : BufferIndex). hits c ins && not (staleAt c m)) q ∙ or-false-left (hits x ins && not (staleAt x m)) _ e
+clash-at ins (x ∷ os) m o (inr k) e = clash-at ins os m o k (or-false-right (hits x ins && not (staleAt x m)) _ e)
+
+pub apart-from : (m : Marks) (n : ℕ) (ins os : List BufferIndex) (o b : BufferIndex) → Among o os → Among b ins → noClash n ins os m ≡ true → ApartFrom m n o b
 unfolding ApartFrom
-apart-from m n ins o b a e pos q = go (eqb n 0) (hits o ins) (staleAt o m) (ne-eqb n 0 (omega arith)) (hits-among o b ins a (ap (sameBuffer o) (sym q) ∙ same-buffer-refl o)) e
+apart-from m n ins os o b k a e pos q =
+    let free : clash ins os m ≡ false = fails refl (or-other (eqb n 0) _ e (λ z. let none : n ≡ 0 = eqb-true _ _ z in omega arith)) in
+    go (hits o ins) (staleAt o m) (hits-among o b ins a (ap (sameBuffer o) (sym q) ∙ same-buffer-refl o)) (clash-at ins os m o k free)
   where
-    go : (z t s : Bool) → z ≡ false → t ≡ true → (z || not ((t && not s) || false)) ≡ true → s ≡ true
-    go true t s ez et f = absurd (true≢false ez)
-    go false true true ez et f = refl
-    go false true false ez et f = absurd (false≢true f)
-    go false false s ez et f = absurd (false≢true et)
+    go : (t s : Bool) → t ≡ true → (t && not s) ≡ false → s ≡ true
+    go true true et f = refl
+    go true false et f = absurd (true≢false f)
+    go false s et f = absurd (false≢true et)
 
 -- ---- one pool or two
 

@@ -9,6 +9,7 @@ use lib.ListN.{getD, set, take, drop, replicate}
 use lib.Seq.{sets}
 use lib.Ieee.{Float, binary64, add}
 use Rattle.numbers.specs.Constants.{zero64}
+use Rattle.answers.specs.Activity.{greaterOf}
 use Rattle.answers.specs.declared.activity.StageActivity.{StageActivity}
 use Rattle.answers.specs.declared.activity.StageActivity.the-variants as activity
 use Rattle.magnetron.specs.declared.buffer.Marks.{Marks}
@@ -16,6 +17,8 @@ use Rattle.magnetron.specs.declared.buffer.BufferIndex.{BufferIndex}
 use Rattle.magnetron.specs.declared.buffer.BufferIndex.the-variants.{External, Internal}
 use Rattle.magnetron.specs.declared.inputs.Inputs.{Inputs}
 use Rattle.magnetron.specs.declared.inputs.Inputs.the-variants.{Nothing, One, Two}
+use Rattle.magnetron.specs.declared.outputs.Outputs.{Outputs}
+use Rattle.magnetron.specs.declared.outputs.Outputs.the-variants as outputs
 
 -- ---- a buffer is a place in one of two pools
 
@@ -41,6 +44,10 @@ sameBuffer b c = samePool b c && eqb (indexOf b) (indexOf c)
 -- "Activity is that of the output's kind"
 abbrev pub activityOf : BufferIndex → StageActivity
 activityOf b = pick b activity.Internal activity.External
+
+-- an activity, or that of an output where it is greater
+abbrev pub louderBy : BufferIndex → StageActivity → StageActivity
+louderBy b a = greaterOf a (activityOf b)
 
 -- ---- samples and marks
 
@@ -130,6 +137,11 @@ abbrev pub listOf : Inputs → List BufferIndex
 listOf Nothing = []
 listOf (One a) = a ∷ []
 listOf (Two a b) = a ∷ b ∷ []
+
+-- the buffers that are written, left before right
+abbrev pub writtenBy : Outputs → List BufferIndex
+writtenBy (outputs.One output) = output ∷ []
+writtenBy (outputs.Two left right) = left ∷ right ∷ []
 
 abbrev pub hits : BufferIndex → List BufferIndex → Bool
 hits b [] = false

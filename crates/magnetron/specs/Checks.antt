@@ -1,4 +1,4 @@
--- The checks of document 01 that look at pools and buffers: 1, 2, 5 and 7. Each is the test that a refusal's words deny. Assumes nothing.
+-- The checks of documents 01 and 02 that look at pools and buffers: 1, 2, 5, 7 and 8. Each is the test that a refusal's words deny. Assumes nothing.
 use mathlib.Core.Bool.{Bool, true, not, _&&_, _||_}
 use mathlib.Core.List.{List, [], _∷_}
 use Prim.Native.Nat.{ℕ, _*_}
@@ -6,7 +6,7 @@ use lib.Dec.{leb, ltb, eqb}
 use lib.ListN.{length}
 use lib.Ieee.{Float}
 use Rattle.numbers.specs.Zeros.{allPlusZero}
-use Rattle.magnetron.specs.Buffers.{indexOf, clash}
+use Rattle.magnetron.specs.Buffers.{indexOf, hits, clash}
 use Rattle.magnetron.specs.Pools.{poolAt}
 use Rattle.magnetron.specs.declared.buffer.Marks.{Marks}
 use Rattle.magnetron.specs.declared.buffer.BufferIndex.{BufferIndex}
@@ -38,3 +38,8 @@ allThere p (b ∷ bs) = hasBuffer p b && allThere p bs
 -- 7 refuses where "the window isn't empty and a stage's output is also one of its inputs and is not stale at its turn"
 abbrev pub noClash : ℕ → List BufferIndex → List BufferIndex → Marks → Bool
 noClash n ins outs m = eqb n 0 || not (clash ins outs m)
+
+-- 8 refuses where "both outputs are the same buffer at any window length"
+abbrev pub noneTwice : List BufferIndex → Bool
+noneTwice [] = true
+noneTwice (b ∷ bs) = not (hits b bs) && noneTwice bs

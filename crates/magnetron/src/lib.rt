@@ -5,6 +5,7 @@ pub mod check;
 mod content;
 pub mod inputs;
 pub mod output;
+pub mod outputs;
 pub mod pool;
 pub mod prepare;
 pub mod read;

@@ -65,7 +65,7 @@ module _ {p : Pools} {inputs : Inputs} {own other values : List Float} {output :
   pub input-clear : (a : BufferIndex) → Among a (listOf inputs) → Clear (sourceOf p (marksIn p) a output) (length own) (length other) (baseOf p output) n
   input-clear a k =
       clear-source p (marksIn p) output own other n (w .held) a (input-there a k)
-      (apart-from (marksIn p) n (listOf inputs) output a k (w .clear))
+      (apart-from (marksIn p) n (listOf inputs) (output ∷ []) output a (inl refl) k (w .clear))
 
   -- ---- the values as a signal
 

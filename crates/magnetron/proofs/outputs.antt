@@ -1,0 +1,2 @@
+-- Laws that the proofs of `magnetron::outputs` alone cite.
+mod Pairs
