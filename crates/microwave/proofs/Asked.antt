@@ -1,16 +1,32 @@
--- Asks along a list, and three of them that stand for as many as a stage has: 0.0 answers those that are not there. Assumes nothing.
+-- A level whose other is there, and asks along a list, up to the first that is missing. Assumes nothing.
 use mathlib.Core.Path.{_≡_, refl, sym, ap, _∙_}
 use mathlib.Core.Bool.{Bool, true, false, cond}
 use mathlib.Core.List.{List, [], _∷_}
 use Prim.Native.Nat.{ℕ}
 use lib.Ieee.{Float}
-use Rattle.microwave.specs.Parameter.{looked, askList, allFound, paddedOf}
+use types.Run.{OneOf, miss}
+use denote.Enum.Declared.{tagOf}
+use Rattle.microwave.specs.Parameter.{looked, required, ofPair, askList, allFound}
+use Rattle.microwave.specs.declared.parameter.Parameter.{Parameter}
+use Rattle.microwave.specs.declared.parameter.Parameter.the-variants.{Fixed, Slot, WindowSeconds, Absent}
 use Rattle.microwave.specs.declared.parameter.Found.{Found}
 use Rattle.microwave.specs.declared.parameter.Found.the-variants.{Number, Missing}
 use Rattle.microwave.specs.declared.parameter.Ask.{Ask}
 use Rattle.microwave.specs.declared.parameter.Asks.{Asks}
 use Rattle.microwave.specs.declared.parameter.Asks.the-variants.{Nothing, One, Two, Three}
-use Rattle.microwave.specs.declared.parameter.AllThree.{AllThree}
+use Rattle.microwave.proofs.parameter.Parameter.{the-type}
+
+-- ---- one level of a pair
+
+-- the tags of all parameters but Absent
+abbrev there : List ℕ
+there = 0 ∷ 1 ∷ 2 ∷ []
+
+pub other-there : (level other : Parameter) → OneOf there (tagOf the-type other) → required level ≡ ofPair level other
+other-there level (Fixed x) h = refl
+other-there level (Slot i) h = refl
+other-there level WindowSeconds h = refl
+other-there level Absent h = absurd (miss there 3 tt h)
 
 -- ---- asks by their list
 
@@ -53,17 +69,7 @@ along end = none-left _ _
 along (gone e m) = none-found _ _ _ _ _ e m
 along (more e n rest) = one-found _ _ _ _ _ _ e n ∙ along rest
 
--- ---- three for as many as there are
-
-padded-found : (asks : Asks) (values : List Float) (seconds : Float) → let t = paddedOf (askList asks) in
-    allFound (askList asks) values seconds ≡ allFound (t .first ∷ t .second ∷ t .third ∷ []) values seconds
-unfolding allFound
-padded-found Nothing values seconds = refl
-padded-found (One a) values seconds = refl
-padded-found (Two a b) values seconds = refl
-padded-found (Three a b c) values seconds = refl
-
--- the number that a check answers for asks whose three come out so
-pub judged : {values : List Float} {seconds : Float} (asks : Asks) {t : AllThree} {b : Bool} → t ≡ paddedOf (askList asks)
-    → Along values seconds (t .first ∷ t .second ∷ t .third ∷ []) b → cond {A = ℕ} b 0 6 ≡ cond (allFound (askList asks) values seconds) 0 6
-judged asks e a = ap (λ (f : Bool). cond {A = ℕ} f 0 6) (sym (padded-found asks _ _ ∙ (rw e at (along a))))
+-- the number that a check answers for asks that come out so
+pub judged : {values : List Float} {seconds : Float} {asks : Asks} (known : Asks) {b : Bool} → asks ≡ known
+    → Along values seconds (askList known) b → cond {A = ℕ} b 0 6 ≡ cond (allFound (askList asks) values seconds) 0 6
+judged known e a = rw e (ap (λ (f : Bool). cond {A = ℕ} f 0 6) (sym (along a)))

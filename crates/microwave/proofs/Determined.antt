@@ -9,6 +9,8 @@ use Rattle.microwave.proofs.Asked.{asked, as-asked}
 use Rattle.microwave.proofs.parameter.lookup.Reads as lookup
 use Rattle.microwave.proofs.parameter.required.Reads as required
 use Rattle.microwave.proofs.parameter.or_zero.Reads as or-zero
+use Rattle.microwave.proofs.parameter.or_one.Reads as or-one
+use Rattle.microwave.proofs.parameter.of_pair.Reads as of-pair
 use Rattle.microwave.proofs.parameter.missing.Reads as missing
 use Rattle.microwave.proofs.parameter.numbers_found.Reads as numbers-found
 use Rattle.microwave.proofs.plain.clip_limit.Reads as clip-limit
@@ -26,13 +28,14 @@ use Rattle.microwave.proofs.filter.Biquad.step.Reads as biquad-step
 use Rattle.microwave.proofs.waveguide.guide_of.Reads as guide-of
 use Rattle.microwave.proofs.waveguide.StringMemory.step.Reads as string-step
 use Rattle.microwave.proofs.window.plain_window.Reads as plain-window
+use Rattle.microwave.proofs.window.gain_window.Reads as gain-window
 use Rattle.microwave.proofs.window.oscillator_window.Reads as oscillator-window
 use Rattle.microwave.proofs.window.one_pole_window.Reads as one-pole-window
 use Rattle.microwave.proofs.window.biquad_window.Reads as biquad-window
 use Rattle.microwave.proofs.window.string_window.Reads as string-window
 
-pub parameter-determined : Answer lookup.Post × Answer required.Post × Answer or-zero.Post × Answer missing.Post × Answer numbers-found.Post
-parameter-determined = (by-definition, by-definition, by-definition, by-definition, by-definition)
+pub parameter-determined : Answer lookup.Post × Answer required.Post × Answer or-zero.Post × Answer or-one.Post × Answer of-pair.Post × Answer missing.Post × Answer numbers-found.Post
+parameter-determined = (by-definition, by-definition, by-definition, by-definition, by-definition, by-definition, by-definition)
 
 pub plain-determined : Answer clip-limit.Post × Answer shaped.Post
 plain-determined = (by-definition, by-definition)
@@ -46,10 +49,11 @@ filter-determined = (as-follows (λ κs a r s p. sym (as-asked r) ∙ ap asked p
 pub waveguide-determined : Answer guide-of.Post × Determined (λ r s. step (strung (r .memory) (now (s .1 .1 .0))) (r .sample)) string-step.Post
 waveguide-determined = (by-definition, by-definition)
 
-pub window-determined : Determined (λ r s. now (s .1 .0)) plain-window.Post × Determined (λ r s. outcome r (now (s .1 .1 .0))) oscillator-window.Post
+pub window-determined : Determined (λ r s. now (s .1 .0)) plain-window.Post × Determined (λ r s. now (s .1 .0)) gain-window.Post × Determined (λ r s. outcome r (now (s .1 .1 .0))) oscillator-window.Post
     × Determined (λ r s. outcome r (now (s .1 .1 .0))) one-pole-window.Post × Determined (λ r s. outcome r (now (s .1 .1 .0))) biquad-window.Post
     × Determined (λ r s. outcome (strung r (now (s .1 .1 .0))) (now (s .1 .1 .1 .0))) string-window.Post
 window-determined = (
+  by-definition,
   by-definition,
   as-follows (λ κs a r s p. both (p .state) (p .samples)),
   as-follows (λ κs a r s p. both (p .state) (p .samples)),

@@ -5,7 +5,7 @@ use mathlib.Core.List.{List, [], _∷_}
 use lib.Dec.{ltb, eqb}
 use lib.ListN.{length, getD}
 use lib.Ieee.{Float, nan}
-use Rattle.numbers.specs.Constants.{zero64}
+use Rattle.numbers.specs.Constants.{zero64, one64}
 use Rattle.microwave.specs.declared.parameter.Parameter.{Parameter}
 use Rattle.microwave.specs.declared.parameter.Parameter.the-variants.{Fixed, Slot, WindowSeconds, Absent}
 use Rattle.microwave.specs.declared.parameter.Found.{Found}
@@ -26,12 +26,23 @@ numberIn Absent absent values seconds = absent
 abbrev pub looked : Ask → List Float → Float → Found
 looked ask values seconds = numberIn (ask .parameter) (ask .absent) values seconds
 
--- "Only out_level and phase may be absent.": every other parameter is required, and 0.0 stands for an absent phase. For an absent out_level a run has 1.0.
+-- "Only out_level and phase may be absent.": every other parameter is required, and 0.0 stands for an absent phase
 abbrev pub required : Parameter → Ask
 required parameter = record { parameter = parameter; absent = Missing }
 
 abbrev pub orZero : Parameter → Ask
 orZero parameter = record { parameter = parameter; absent = Number zero64 }
+
+-- "out_level, 1.0 if absent"
+abbrev pub orOne : Parameter → Ask
+orOne level = record { parameter = level; absent = Number one64 }
+
+-- of "an optional pair of out levels", one, beside the other: "6 also where just one level of the pair is absent"
+abbrev pub ofPair : Parameter → Parameter → Ask
+ofPair level (Fixed x) = required level
+ofPair level (Slot i) = required level
+ofPair level WindowSeconds = required level
+ofPair level Absent = orOne level
 
 -- What 01 has for each case of the answer: the number that a run returns, and the value that stands for the parameter.
 pub record Reported : Type 0 where
@@ -48,7 +59,7 @@ pub data Refused (values : List Float) : Parameter → Found → Type 0 where
   slot-past : {i : ℕ} {absent : Found} → length values ≤ i → Refused values (Slot i) absent
   required-absent : Refused values Absent Missing
 
--- ---- what a stage asks for: up to three parameters beside out_level
+-- ---- what a stage asks for: up to three parameters beside its levels
 
 abbrev pub askList : Asks → List Ask
 askList Nothing = []

@@ -1,4 +1,4 @@
--- The stages without memory, a sample at a time: Pass, Pow3, Clip and RingModulator. Rests on the small functions of f64. Assumes nothing.
+-- The stages without memory, a sample at a time: Pass, Pow3, Clip, RingModulator, and one side of Pan. Rests on the small functions of f64. Assumes nothing.
 use lib.Ieee.{Float, neg}
 use Rattle.numbers.specs.Small.{absOf, maxOf, minOf}
 use Rattle.microwave.specs.Arithmetic.{Arithmetic, f64-arithmetic}
@@ -19,3 +19,7 @@ shapedOf Pass first second = first
 shapedOf Pow3 first second = first ⊗ first ⊗ first
 shapedOf (Clip limit) first second = clipped limit first
 shapedOf RingModulator first second = first ⊗ second
+
+-- "s times left", or right
+abbrev pub gained : Float → Float → Float
+gained gain s = s ⊗ gain

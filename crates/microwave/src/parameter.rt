@@ -1,7 +1,7 @@
 // A stage's parameter, and the number that stands for it in a window: what the Rust has automation traits for. Rests on nothing.
 ghost use mathlib.Core.Path.{_≡_};
 ghost use mathlib.Core.Bool.{cond};
-ghost use Rattle.microwave.specs.Parameter.{looked, required as requiredAsk, orZero, askList, allFound, paddedOf, numberFor, numbersOf};
+ghost use Rattle.microwave.specs.Parameter.{looked, required as requiredAsk, orZero, orOne, ofPair, askList, allFound, paddedOf, numberFor, numbersOf};
 
 pub enum Parameter {
     Fixed(f64),
@@ -84,6 +84,26 @@ pub fn or_zero(parameter: Parameter) -> Ask
     }
 }
 
+// A level for which 1.0 stands where it is absent.
+pub fn or_one(level: Parameter) -> Ask
+    ensures { λ r. ⌜ r ≡ orOne level ⌝ }
+{
+    Ask {
+        parameter: level,
+        absent: Found::Number(1.0),
+    }
+}
+
+// One level of a pair: 1.0 stands for it where the other is absent too.
+pub fn of_pair(level: Parameter, other: Parameter) -> Ask
+    ensures { λ r. ⌜ r ≡ ofPair level other ⌝ }
+{
+    let Parameter::Absent = other else {
+        return required(level);
+    };
+    or_one(level)
+}
+
 fn padded(asks: Asks) -> AllThree
     ensures { λ r. ⌜ r ≡ paddedOf (askList asks) ⌝ }
 {
@@ -116,17 +136,38 @@ fn padded(asks: Asks) -> AllThree
 pub fn missing(asks: Asks, values: &[f64], seconds: f64) -> usize
     ensures { λ r. ⌜ r ≡ cond (allFound (askList asks) (now (values .entry)) seconds) 0 6 ⌝ }
 {
-    let asked = padded(asks);
-    let Found::Number(_) = lookup(asked.first, values, seconds) else {
-        return 6;
-    };
-    let Found::Number(_) = lookup(asked.second, values, seconds) else {
-        return 6;
-    };
-    let Found::Number(_) = lookup(asked.third, values, seconds) else {
-        return 6;
-    };
-    0
+    match asks {
+        Asks::Nothing => {
+            return 0;
+        }
+        Asks::One(first) => {
+            let Found::Number(_) = lookup(first, values, seconds) else {
+                return 6;
+            };
+            return 0;
+        }
+        Asks::Two(first, second) => {
+            let Found::Number(_) = lookup(first, values, seconds) else {
+                return 6;
+            };
+            let Found::Number(_) = lookup(second, values, seconds) else {
+                return 6;
+            };
+            return 0;
+        }
+        Asks::Three(first, second, third) => {
+            let Found::Number(_) = lookup(first, values, seconds) else {
+                return 6;
+            };
+            let Found::Number(_) = lookup(second, values, seconds) else {
+                return 6;
+            };
+            let Found::Number(_) = lookup(third, values, seconds) else {
+                return 6;
+            };
+            return 0;
+        }
+    }
 }
 
 // The number found, 0.0 where there is none: check 6 has seen to it that there is one.

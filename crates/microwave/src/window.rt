@@ -16,7 +16,7 @@ use magnetron::source::fetch;
 ghost use mathlib.Core.Path.{_≡_};
 ghost use Rattle.magnetron.specs.Inside.Source.{signalOf};
 ghost use Rattle.magnetron.specs.Inside.Target.{LiesIn, ClearOf, written};
-ghost use Rattle.microwave.specs.Plain.{shapedOf};
+ghost use Rattle.microwave.specs.Plain.{shapedOf, gained};
 ghost use Rattle.microwave.specs.Oscillator.{oscillatorNext, oscillatorOut};
 ghost use Rattle.microwave.specs.OnePole.{onePoleNext, onePoleOut};
 ghost use Rattle.microwave.specs.Filter.{biquadNext, biquadOut};
@@ -41,6 +41,19 @@ pub fn plain_window(
         let x = fetch(own, other, first, i);
         let y = fetch(own, other, second, i);
         write_sample(own, target, i, shape.shaped(x, y));
+        i += 1;
+    }
+}
+
+// A gain: one side of Pan.
+pub fn gain_window(gain: f64, own: &mut [f64], other: &[f64], input: Source, target: Target)
+    requires { ⌜ (LiesIn target (now own)) × (ClearOf input (now own) (now other) target) ⌝ }
+    ensures { λ _. ⌜ now (own .exit) ≡ written (now (own .entry)) target (λ i. gained gain (signalOf input (now (own .entry)) (now (other .entry)) i)) ⌝ }
+{
+    let mut i = 0;
+    while i < target.samples {
+        let x = fetch(own, other, input, i);
+        write_sample(own, target, i, x * gain);
         i += 1;
     }
 }
