@@ -27,7 +27,7 @@ use Rattle.answers.proofs.Tests.{and-left, and-right}
 use Rattle.magnetron.specs.Signals.{tab, window}
 use Rattle.magnetron.proofs.Windows.{tab-length, tab-at}
 use Rattle.stages.specs.declared.kind.Kind.{Kind}
-use Rattle.stages.specs.declared.kind.Kind.the-variants.{Pass, Pow3, Clip, Filter, Oscillator, ModOscillator, Waveguide, RingModulator}
+use Rattle.stages.specs.declared.kind.Kind.the-variants.{Pass, Pow3, Clip, Filter, Oscillator, ModOscillator, Waveguide, RingModulator, Pan}
 use Rattle.stages.specs.declared.patch.Patch.{Patch}
 use Rattle.stages.specs.declared.state.State.{State}
 use Rattle.stages.specs.Stage.{ringLen, ringFine}
@@ -37,7 +37,7 @@ use Rattle.stages.proofs.kind.Kind.{the-type}
 
 -- the tags of all kinds but Waveguide
 abbrev others : List ℕ
-others = 0 ∷ 1 ∷ 2 ∷ 3 ∷ 4 ∷ 5 ∷ 7 ∷ []
+others = 0 ∷ 1 ∷ 2 ∷ 3 ∷ 4 ∷ 5 ∷ 7 ∷ 8 ∷ []
 
 pub no-ring : (kind : Kind) (s : State) → OneOf others (tagOf the-type kind) → (0 ≡ ringLen kind) × (true ≡ ringFine kind s)
 no-ring (Pass a) s h = (refl, refl)
@@ -48,6 +48,7 @@ no-ring (Oscillator o) s h = (refl, refl)
 no-ring (ModOscillator a o m) s h = (refl, refl)
 no-ring (Waveguide a g) s h = absurd (miss others 6 tt h)
 no-ring (RingModulator a b) s h = (refl, refl)
+no-ring (Pan a gain right) s h = (refl, refl)
 
 fine-len : (kind : Kind) (s : State) → ringFine kind s ≡ true → ringLen kind ≤ 32768
 fine-len (Pass a) s e = omega arith
@@ -58,6 +59,7 @@ fine-len (Oscillator o) s e = omega arith
 fine-len (ModOscillator a o m) s e = omega arith
 fine-len (Waveguide a g) s e = omega (arith, leb-true (g .«buffer_size») 32767 (and-left _ _ e))
 fine-len (RingModulator a b) s e = omega arith
+fine-len (Pan a gain right) s e = omega arith
 
 pub fine-at : (patch : Patch) (states : List State) (k : ℕ) → fineIn patch states k ≡ true → lenIn patch k ≤ 32768
 fine-at patch states k e = fine-len (stageIn patch k .kind) (getD states k noState) e

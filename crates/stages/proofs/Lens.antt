@@ -2,7 +2,7 @@
 --     Part             a part of a larger state, with its three laws
 --     part-state, part-sees     the whole steps as its part does, and shows the part's state
 --     lifted           a window of the part's machine is a window of the stage's
---     plain-stepped    a machine that keeps nothing
+--     plain-stepped, gain-stepped     a machine that keeps nothing
 --     phases, onePole, biquad, string     the parts of a stage's own
 -- Assumes nothing.
 use mathlib.Core.Path.{_≡_, refl, sym, ap, _∙_}
@@ -13,7 +13,7 @@ use Rattle.magnetron.specs.Signals.{stateAt}
 use Rattle.magnetron.specs.Inside.Source.{signalOf}
 use Rattle.magnetron.specs.Inside.Target.{written}
 use Rattle.magnetron.specs.declared.output.Target.{Target}
-use Rattle.microwave.specs.Plain.{shapedOf}
+use Rattle.microwave.specs.Plain.{shapedOf, gained}
 use Rattle.microwave.specs.Waveguide.{Strung}
 use Rattle.microwave.specs.Inside.{Windowed}
 use Rattle.microwave.specs.declared.oscillator.Phases.{Phases}
@@ -89,3 +89,8 @@ pub plain-stepped : (a : Sources) (other : List Float) {k : Shape} {o : Own} {ow
     → own' ≡ written own target (λ i. shapedOf k (signalOf (a .first) own other i) (signalOf (a .second) own other i))
     → Stepped (machine.Plain k) o (hearing a own other) own target o own'
 plain-stepped a other {k} {o} {own} {own'} {target} e = record { kept = stays o (hearing a own other) (target .samples); samples = e }
+
+pub gain-stepped : (a : Sources) (other : List Float) {gain : Float} {o : Own} {own own' : List Float} {target : Target}
+    → own' ≡ written own target (λ i. gained gain (signalOf (a .first) own other i))
+    → Stepped (machine.Gain gain) o (hearing a own other) own target o own'
+gain-stepped a other {gain} {o} {own} {own'} {target} e = record { kept = stays o (hearing a own other) (target .samples); samples = e }

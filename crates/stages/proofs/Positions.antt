@@ -19,7 +19,7 @@ use Rattle.microwave.specs.declared.parameter.Numbers.{Numbers}
 use Rattle.microwave.specs.declared.waveguide.Guide.{Guide}
 use Rattle.microwave.proofs.Strings.{guide-fits, string-length, string-stays}
 use Rattle.stages.specs.declared.kind.Kind.{Kind}
-use Rattle.stages.specs.declared.kind.Kind.the-variants.{Pass, Pow3, Clip, Filter, Oscillator, ModOscillator, Waveguide, RingModulator}
+use Rattle.stages.specs.declared.kind.Kind.the-variants.{Pass, Pow3, Clip, Filter, Oscillator, ModOscillator, Waveguide, RingModulator, Pan}
 use Rattle.stages.specs.declared.window.RenderWindow.{RenderWindow}
 use Rattle.stages.specs.declared.machine.Machine.the-variants as machine
 use Rattle.stages.specs.Stage.{Own, own, ringLen, ringFine, filterMachine, settled, entered, strungOf, Hears, nextOf}
@@ -41,6 +41,7 @@ strings-fit (Filter a f) q w o e l = no-string (filterOf (withNumbers f (q .firs
 strings-fit (Oscillator s) q w o e l = tt
 strings-fit (ModOscillator a s m) q w o e l = tt
 strings-fit (RingModulator a b) q w o e l = tt
+strings-fit (Pan a gain right) q w o e l = tt
 strings-fit (Waveguide a g) q w o e l =
     let small : g .«buffer_size» ≤ 32767 = leb-true _ _ (and-left _ _ e) in
     let below : o .state .waveguide .position < g .«buffer_size» + 1 = ltb-true _ _ (and-right (leb (g .«buffer_size») 32767) _ e) in
@@ -71,5 +72,6 @@ position-stays (Filter a f) q w o x n e l = refl
 position-stays (Oscillator s) q w o x n e l = refl
 position-stays (ModOscillator a s m) q w o x n e l = refl
 position-stays (RingModulator a b) q w o x n e l = refl
+position-stays (Pan a gain right) q w o x n e l = refl
 position-stays (Waveguide a g) q w o x n e l =
     rw (and-left (leb (g .«buffer_size») 32767) _ e) (lt-ltb _ _ (string-position _ (g .«buffer_size» + 1) o x n (strings-fit (Waveguide a g) q w o e l) l))

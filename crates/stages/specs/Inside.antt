@@ -41,6 +41,7 @@ Strings (machine.Oscillator k) o = Unit {0}
 Strings (machine.OnePole k) o = Unit {0}
 Strings (machine.Biquad k) o = Unit {0}
 Strings (machine.Waveguide k) o = InRing k (strungOf o)
+Strings (machine.Gain gain) o = Unit {0}
 
 pub record Playable (m : Machine) (o : Own) (own other : List Float) (a : Sources) (target : Target) : Type 0 where
   pub lies : LiesIn target own

@@ -8,10 +8,10 @@ use lib.Dec.{leb, ltb}
 use lib.ListN.{replicate}
 use lib.IntN.{pos}
 use lib.Ieee.{Float, binary64, mul, ofInt}
-use Rattle.numbers.specs.Constants.{zero64, one64}
+use Rattle.numbers.specs.Constants.{zero64}
 use Rattle.magnetron.specs.declared.buffer.BufferIndex.{BufferIndex}
+use Rattle.microwave.specs.declared.parameter.Parameter.{Parameter}
 use Rattle.microwave.specs.declared.parameter.Ask.{Ask}
-use Rattle.microwave.specs.declared.parameter.Found.the-variants.{Number}
 use Rattle.microwave.specs.declared.parameter.Numbers.{Numbers}
 use Rattle.microwave.specs.declared.oscillator.Phases.{Phases}
 use Rattle.microwave.specs.declared.oscillator.Driven.{Driven}
@@ -23,15 +23,18 @@ use Rattle.microwave.specs.declared.filter.FilterMachine.{FilterMachine}
 use Rattle.microwave.specs.declared.filter.FilterMachine.the-variants as filter
 use Rattle.microwave.specs.declared.plain.Shape.the-variants as shape
 use Rattle.microwave.specs.declared.waveguide.WaveguideSpec.{WaveguideSpec}
-use Rattle.microwave.specs.Parameter.{required, orZero}
+use Rattle.microwave.specs.Parameter.{required, orZero, orOne, ofPair}
 use Rattle.microwave.specs.OnePole.{onePoleNext, onePoleOut}
 use Rattle.microwave.specs.Filter.{filterAsks, withNumbers, machineOf, biquadNext, biquadOut}
 use Rattle.microwave.specs.Oscillator as oscillators
 use Rattle.microwave.specs.Oscillator.{drivenBy, dPhaseOf, oscillatorNext, oscillatorOut}
-use Rattle.microwave.specs.Plain.{clipLimit, shapedOf}
+use Rattle.microwave.specs.Plain.{clipLimit, shapedOf, gained}
 use Rattle.microwave.specs.Waveguide.{Strung, strung, guideOf, stringNext, stringOut}
 use Rattle.stages.specs.declared.kind.Kind.{Kind}
-use Rattle.stages.specs.declared.kind.Kind.the-variants.{Pass, Pow3, Clip, Filter, Oscillator, ModOscillator, Waveguide, RingModulator}
+use Rattle.stages.specs.declared.kind.Kind.the-variants.{Pass, Pow3, Clip, Filter, Oscillator, ModOscillator, Waveguide, RingModulator, Pan}
+use Rattle.stages.specs.declared.kind.Side.{Side}
+use Rattle.stages.specs.declared.kind.Second.{Second}
+use Rattle.stages.specs.declared.kind.Second.the-variants.{Nothing, Right}
 use Rattle.stages.specs.declared.stage.Stage.{Stage}
 use Rattle.stages.specs.declared.state.State.{State}
 use Rattle.stages.specs.declared.state.States.{States}
@@ -51,13 +54,38 @@ inputsOf (Oscillator o) = []
 inputsOf (ModOscillator a o m) = a ∷ []
 inputsOf (Waveguide a g) = a ∷ []
 inputsOf (RingModulator a b) = a ∷ b ∷ []
+inputsOf (Pan a gain right) = a ∷ []
 
--- the parameters that it asks for beside out_level, as the Rust's record lists them. "Only out_level and phase may be absent."
+-- the output that a kind has beside the stage's own: Pan's right one. The stage's own output and out_level are then the left ones.
+abbrev pub secondOf : Kind → Second
+secondOf (Pass a) = Nothing
+secondOf (Pow3 a) = Nothing
+secondOf (Clip a limit) = Nothing
+secondOf (Filter a f) = Nothing
+secondOf (Oscillator o) = Nothing
+secondOf (ModOscillator a o m) = Nothing
+secondOf (Waveguide a g) = Nothing
+secondOf (RingModulator a b) = Nothing
+secondOf (Pan a gain right) = Right right
+
+-- the buffers that a stage writes
+abbrev pub outputsBy : Second → BufferIndex → List BufferIndex
+outputsBy Nothing output = output ∷ []
+outputsBy (Right side) output = output ∷ side .output ∷ []
+
+abbrev pub outputsOf : Stage → List BufferIndex
+outputsOf stage = outputsBy (secondOf (stage .kind)) (stage .output)
+
+-- the parameters that it asks for beside its levels, as the Rust's record lists them. "Only out_level and phase may be absent."
 abbrev pub oscillatorAsks : OscillatorSpec → List Ask
 oscillatorAsks o = required (o .frequency) ∷ orZero (o .phase) ∷ []
 
 abbrev pub waveguideAsks : WaveguideSpec → List Ask
 waveguideAsks g = required (g .frequency) ∷ required (g .cutoff) ∷ required (g .feedback) ∷ []
+
+-- "a left and a right gain"
+abbrev pub panAsks : Parameter → Side → List Ask
+panAsks gain right = required gain ∷ required (right .gain) ∷ []
 
 abbrev pub asksOf : Kind → List Ask
 asksOf (Pass a) = []
@@ -68,10 +96,15 @@ asksOf (Oscillator o) = oscillatorAsks o
 asksOf (ModOscillator a o m) = oscillatorAsks o
 asksOf (Waveguide a g) = waveguideAsks g
 asksOf (RingModulator a b) = []
+asksOf (Pan a gain right) = panAsks gain right
 
--- "out_level, 1.0 if absent"
-abbrev pub levelAsk : Stage → Ask
-levelAsk stage = record { parameter = stage .«out_level»; absent = Number one64 }
+-- and the levels of its outputs: "out_level, 1.0 if absent", or "an optional pair of out levels"
+abbrev pub levelsBy : Second → Parameter → List Ask
+levelsBy Nothing level = orOne level ∷ []
+levelsBy (Right side) level = ofPair level (side .«out_level») ∷ ofPair (side .«out_level») level ∷ []
+
+abbrev pub levelAsks : Stage → List Ask
+levelAsks stage = levelsBy (secondOf (stage .kind)) (stage .«out_level»)
 
 -- ---- what a stage has to itself: its state record, and its ring if it is a waveguide
 
@@ -104,6 +137,7 @@ ringLen (Oscillator o) = 0
 ringLen (ModOscillator a o m) = 0
 ringLen (Waveguide a g) = g .«buffer_size» + 1
 ringLen (RingModulator a b) = 0
+ringLen (Pan a gain right) = 0
 
 -- not 4, of one stage: "a buffer_size is over its bound .. or a stored position isn't below its ring length"
 abbrev pub ringFine : Kind → State → Bool
@@ -115,8 +149,9 @@ ringFine (Oscillator o) s = true
 ringFine (ModOscillator a o m) s = true
 ringFine (Waveguide a g) s = leb (g .«buffer_size») 32767 && ltb (s .waveguide .position) (g .«buffer_size» + 1)
 ringFine (RingModulator a b) s = true
+ringFine (Pan a gain right) s = true
 
--- ---- the window, and its start: the machine that its samples work with, and what the stage keeps then. `q` are the numbers that answered its asks
+-- ---- the window, and its start: the machine that its samples work with, one to an output, and what the stage keeps then. `q` are the numbers that answered its asks
 
 -- "the window's seconds (sample width w times n)"
 abbrev pub windowOf : ℕ → Float → RenderWindow
@@ -148,6 +183,12 @@ settled (Oscillator o) q window s = oscillatorMachine o driven.Plain q window s
 settled (ModOscillator a o m) q window s = oscillatorMachine o (drivenBy m) q window s
 settled (Waveguide a g) q window s = waveguideMachine g q window
 settled (RingModulator a b) q window s = machine.Plain shape.RingModulator
+settled (Pan a gain right) q window s = machine.Gain (q .first)
+
+-- a machine to an output: "(s times left, s times right)"
+abbrev pub machinesBy : Second → Machine → Numbers → List Machine
+machinesBy Nothing m q = m ∷ []
+machinesBy (Right side) m q = m ∷ machine.Gain (q .second) ∷ []
 
 abbrev pub withPhases : State → Phases → State
 withPhases s p = record { oscillator = p; «one_pole» = s .«one_pole»; biquad = s .biquad; waveguide = s .waveguide }
@@ -171,6 +212,7 @@ entered (Oscillator o) q s = saved q s
 entered (ModOscillator a o m) q s = saved q s
 entered (Waveguide a g) q s = s
 entered (RingModulator a b) q s = s
+entered (Pan a gain right) q s = s
 
 -- ---- one sample: what a machine keeps, and what it answers, given one sample of each input. "a run changes only its own kind's part"
 
@@ -194,6 +236,7 @@ nextOf (machine.Oscillator k) o x = own (withPhases (o .state) (oscillatorNext k
 nextOf (machine.OnePole k) o x = own (withOnePole (o .state) (onePoleNext k (o .state .«one_pole») (x .first))) (o .ring)
 nextOf (machine.Biquad k) o x = own (withBiquad (o .state) (biquadNext k (o .state .biquad) (x .first))) (o .ring)
 nextOf (machine.Waveguide k) o x = withStrung o (stringNext k (strungOf o) (x .first))
+nextOf (machine.Gain gain) o x = o
 
 abbrev pub outOf : Machine → Own → Hears → Float
 outOf (machine.Plain k) o x = shapedOf k (x .first) (x .second)
@@ -201,3 +244,4 @@ outOf (machine.Oscillator k) o x = oscillatorOut k (o .state .oscillator) (x .fi
 outOf (machine.OnePole k) o x = onePoleOut k (o .state .«one_pole») (x .first)
 outOf (machine.Biquad k) o x = biquadOut k (o .state .biquad) (x .first)
 outOf (machine.Waveguide k) o x = stringOut k (strungOf o) (x .first)
+outOf (machine.Gain gain) o x = gained gain (x .first)

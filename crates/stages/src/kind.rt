@@ -22,7 +22,7 @@ ghost use mathlib.Core.Path.{_≡_};
 ghost use Rattle.magnetron.specs.Buffers.{listOf};
 ghost use Rattle.microwave.specs.Filter.{withNumbers, machineOf};
 ghost use Rattle.microwave.specs.Parameter.{askList};
-ghost use Rattle.stages.specs.Stage.{inputsOf, oscillatorAsks, waveguideAsks, asksOf, filterMachine, oscillatorMachine, waveguideMachine, settled, entered};
+ghost use Rattle.stages.specs.Stage.{inputsOf, secondOf, oscillatorAsks, waveguideAsks, panAsks, asksOf, filterMachine, oscillatorMachine, waveguideMachine, settled, entered};
 
 pub enum Kind {
     Pass {
@@ -55,6 +55,24 @@ pub enum Kind {
         first: BufferIndex,
         second: BufferIndex,
     },
+    // The stage's own output and out_level are the left ones.
+    Pan {
+        input: BufferIndex,
+        left_gain: Parameter,
+        right: Side,
+    },
+}
+
+// A second output, with its level and its gain.
+pub struct Side {
+    pub output: BufferIndex,
+    pub out_level: Parameter,
+    pub gain: Parameter,
+}
+
+pub enum Second {
+    Nothing,
+    Right(Side),
 }
 
 fn oscillator_asks(o: OscillatorSpec) -> Asks
@@ -72,6 +90,13 @@ fn waveguide_asks(g: WaveguideSpec) -> Asks
     let cutoff = g.cutoff;
     let feedback = g.feedback;
     Asks::Three(required(frequency), required(cutoff), required(feedback))
+}
+
+fn pan_asks(left_gain: Parameter, right: Side) -> Asks
+    ensures { λ r. ⌜ askList r ≡ panAsks «left_gain» right ⌝ }
+{
+    let right_gain = right.gain;
+    Asks::Two(required(left_gain), required(right_gain))
 }
 
 fn filter_machine(filter: FilterType, numbers: Numbers, window: RenderWindow) -> Machine
@@ -139,10 +164,21 @@ impl Kind {
             Kind::ModOscillator { input, .. } => Inputs::One(input),
             Kind::Waveguide { input, .. } => Inputs::One(input),
             Kind::RingModulator { first, second } => Inputs::Two(first, second),
+            Kind::Pan { input, .. } => Inputs::One(input),
         }
     }
 
-    // The parameters that a stage asks for beside out_level.
+    // The output that a stage has beside its own.
+    pub fn second(self) -> Second
+        ensures { λ r. ⌜ r ≡ secondOf self ⌝ }
+    {
+        let Kind::Pan { right, .. } = self else {
+            return Second::Nothing;
+        };
+        Second::Right(right)
+    }
+
+    // The parameters that a stage asks for beside its levels.
     pub fn asks(self) -> Asks
         ensures { λ r. ⌜ askList r ≡ asksOf self ⌝ }
     {
@@ -155,10 +191,15 @@ impl Kind {
             Kind::ModOscillator { oscillator, .. } => oscillator_asks(oscillator),
             Kind::Waveguide { waveguide, .. } => waveguide_asks(waveguide),
             Kind::RingModulator { .. } => Asks::Nothing,
+            Kind::Pan {
+                left_gain,
+                right,
+                ..
+            } => pan_asks(left_gain, right),
         }
     }
 
-    // The stage's machine for a window, from the numbers that its parameters gave.
+    // The machine of the stage's own output for a window, from the numbers that its parameters gave.
     pub fn settle(self, numbers: Numbers, window: RenderWindow, state: State) -> Machine
         ensures { λ r. ⌜ r ≡ settled self numbers window state ⌝ }
     {
@@ -179,6 +220,7 @@ impl Kind {
             } => oscillator_machine(oscillator, modulation.driven(), numbers, window, state),
             Kind::Waveguide { waveguide, .. } => waveguide_machine(waveguide, numbers, window),
             Kind::RingModulator { .. } => Machine::Plain(Shape::RingModulator),
+            Kind::Pan { .. } => Machine::Gain(numbers.first),
         }
     }
 
@@ -195,6 +237,7 @@ impl Kind {
             Kind::ModOscillator { .. } => state.saving(numbers),
             Kind::Waveguide { .. } => state,
             Kind::RingModulator { .. } => state,
+            Kind::Pan { .. } => state,
         }
     }
 }

@@ -8,6 +8,7 @@ use microwave::oscillator::Oscillator;
 use microwave::plain::Shape;
 use microwave::waveguide::Guide;
 use microwave::window::biquad_window;
+use microwave::window::gain_window;
 use microwave::window::one_pole_window;
 use microwave::window::oscillator_window;
 use microwave::window::plain_window;
@@ -29,6 +30,7 @@ pub enum Machine {
     OnePole(OnePole),
     Biquad(Coefficients),
     Waveguide(Guide),
+    Gain(f64),
 }
 
 // What a stage keeps after one sample, and the sample.
@@ -83,6 +85,10 @@ impl Machine {
                 state.waveguide = next;
                 return state;
             }
+            Machine::Gain(gain) => {
+                gain_window(gain, own, other, first, target);
+                return state;
+            }
         }
     }
 
@@ -127,6 +133,10 @@ impl Machine {
                 let kept = next.memory;
                 state.waveguide = kept;
                 let sample = next.sample;
+                return Sampled { state, sample };
+            }
+            Machine::Gain(gain) => {
+                let sample = first * gain;
                 return Sampled { state, sample };
             }
         }

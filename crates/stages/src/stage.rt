@@ -1,13 +1,18 @@
 // A stage of a patch: its kind, the buffer that it writes, and how loud. Port of the specs of mod.rs.
 use crate::kind::Kind;
+use crate::kind::Second;
 use crate::state::State;
 use magnetron::buffer::BufferIndex;
-use microwave::parameter::Ask;
-use microwave::parameter::Found;
+use magnetron::outputs::Outputs;
+use microwave::parameter::Asks;
 use microwave::parameter::Parameter;
+use microwave::parameter::of_pair;
+use microwave::parameter::or_one;
 ghost use mathlib.Core.Path.{_≡_};
 ghost use Prim.Native.Nat.{_≤_};
-ghost use Rattle.stages.specs.Stage.{levelAsk, ringLen, ringFine};
+ghost use Rattle.magnetron.specs.Buffers.{writtenBy};
+ghost use Rattle.microwave.specs.Parameter.{askList};
+ghost use Rattle.stages.specs.Stage.{outputsOf, levelAsks, ringLen, ringFine};
 
 pub struct Stage {
     pub kind: Kind,
@@ -16,15 +21,30 @@ pub struct Stage {
 }
 
 impl Stage {
-    // What out_level is asked for: 1.0 where it is absent.
-    pub fn level_ask(self) -> Ask
-        ensures { λ r. ⌜ r ≡ levelAsk self ⌝ }
+    // The buffers that the stage writes.
+    pub fn outputs(self) -> Outputs
+        ensures { λ r. ⌜ writtenBy r ≡ outputsOf self ⌝ }
     {
-        let parameter = self.out_level;
-        Ask {
-            parameter,
-            absent: Found::Number(1.0),
-        }
+        let output = self.output;
+        let kind = self.kind;
+        let Second::Right(side) = kind.second() else {
+            return Outputs::One(output);
+        };
+        let right = side.output;
+        Outputs::Two(output, right)
+    }
+
+    // What the levels of its outputs are asked for.
+    pub fn level_asks(self) -> Asks
+        ensures { λ r. ⌜ askList r ≡ levelAsks self ⌝ }
+    {
+        let level = self.out_level;
+        let kind = self.kind;
+        let Second::Right(side) = kind.second() else {
+            return Asks::One(or_one(level));
+        };
+        let right = side.out_level;
+        Asks::Two(of_pair(level, right), of_pair(right, level))
     }
 
     // Check 4 of one stage.

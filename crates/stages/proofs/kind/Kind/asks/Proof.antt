@@ -42,6 +42,12 @@ waveguide-asks-requires c κs = search needs
 enum-told-3 : tie.Need-enum-told-3
 enum-told-3 c = search needs
 
+enum-known-self-6 : tie.Need-enum-known-self-6
+enum-known-self-6 c = search needs
+
+pan-asks-requires : tie.Need-pan-asks-requires
+pan-asks-requires c κs = search needs
+
 returns : tie.Need-returns
 returns c = search needs
 
@@ -66,6 +72,9 @@ returns-7 c = simp (c .before .before .self5 .given .1) (c .waveguide-asks .ensu
 returns-8 : tie.Need-returns-8
 returns-8 c = search needs
 
+returns-9 : tie.Need-returns-9
+returns-9 c = simp (c .before .before .self6 .given .1) (c .pan-asks .ensures)
+
 pub asks-spec : {M : Type 1} → statement M
 asks-spec =
     tie.close
@@ -83,6 +92,8 @@ asks-spec =
     enum-known-self-5
     waveguide-asks-requires
     enum-told-3
+    enum-known-self-6
+    pan-asks-requires
     returns
     returns-2
     returns-3
@@ -90,4 +101,5 @@ asks-spec =
     returns-5
     returns-6
     returns-7
-    returns-8)
+    returns-8
+    returns-9)

@@ -33,6 +33,9 @@ enum-told-7 c = search needs
 enum-told-8 : tie.Need-enum-told-8
 enum-told-8 c = search needs
 
+enum-told-9 : tie.Need-enum-told-9
+enum-told-9 c = search needs
+
 returns : tie.Need-returns
 returns c = simp (c .enum-told .given .1)
 
@@ -57,6 +60,9 @@ returns-7 c = simp (c .enum-told7 .given .1)
 returns-8 : tie.Need-returns-8
 returns-8 c = simp (c .enum-told8 .given .1)
 
+returns-9 : tie.Need-returns-9
+returns-9 c = simp (c .enum-told9 .given .1)
+
 pub enter-spec : {M : Type 1} → statement M
 enter-spec =
     tie.close
@@ -71,6 +77,7 @@ enter-spec =
     saving-requires-2
     enum-told-7
     enum-told-8
+    enum-told-9
     returns
     returns-2
     returns-3
@@ -78,4 +85,5 @@ enter-spec =
     returns-5
     returns-6
     returns-7
-    returns-8)
+    returns-8
+    returns-9)

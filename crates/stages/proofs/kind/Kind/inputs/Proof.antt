@@ -27,6 +27,9 @@ enum-known-self-6 c = search needs
 enum-known-self-7 : tie.Need-enum-known-self-7
 enum-known-self-7 c = search needs
 
+enum-known-self-8 : tie.Need-enum-known-self-8
+enum-known-self-8 c = search needs
+
 returns : tie.Need-returns
 returns c = simp (c .before .self .given .1)
 
@@ -51,6 +54,9 @@ returns-7 c = simp (c .before .self6 .given .1)
 returns-8 : tie.Need-returns-8
 returns-8 c = simp (c .before .self7 .given .1)
 
+returns-9 : tie.Need-returns-9
+returns-9 c = simp (c .before .self8 .given .1)
+
 pub inputs-spec : {M : Type 1} → statement M
 inputs-spec =
     tie.close
@@ -63,6 +69,7 @@ inputs-spec =
     enum-known-self-5
     enum-known-self-6
     enum-known-self-7
+    enum-known-self-8
     returns
     returns-2
     returns-3
@@ -70,4 +77,5 @@ inputs-spec =
     returns-5
     returns-6
     returns-7
-    returns-8)
+    returns-8
+    returns-9)

@@ -45,6 +45,9 @@ waveguide-machine-requires c κs = search needs
 enum-told-4 : tie.Need-enum-told-4
 enum-told-4 c = search needs
 
+enum-told-5 : tie.Need-enum-told-5
+enum-told-5 c = search needs
+
 returns : tie.Need-returns
 returns c = simp (c .enum-told .given .1)
 
@@ -69,6 +72,9 @@ returns-7 c = simp (c .before .before .self4 .given .1, c .waveguide-machine .en
 returns-8 : tie.Need-returns-8
 returns-8 c = simp (c .enum-told4 .given .1)
 
+returns-9 : tie.Need-returns-9
+returns-9 c = simp (c .enum-told5 .given .1)
+
 pub settle-spec : {M : Type 1} → statement M
 settle-spec =
     tie.close
@@ -87,6 +93,7 @@ settle-spec =
     enum-known-self-4
     waveguide-machine-requires
     enum-told-4
+    enum-told-5
     returns
     returns-2
     returns-3
@@ -94,4 +101,5 @@ settle-spec =
     returns-5
     returns-6
     returns-7
-    returns-8)
+    returns-8
+    returns-9)

@@ -1,6 +1,6 @@
 -- `stages::machine::Machine::play` meets its contract: each arm is its window's contract; the other parts of the state stay. Assumes nothing.
 use mathlib.Core.Path.{refl}
-use Rattle.stages.proofs.Lens.{lifted, phases, onePole, biquad, string, plain-stepped}
+use Rattle.stages.proofs.Lens.{lifted, phases, onePole, biquad, string, plain-stepped, gain-stepped}
 use borrow.Author.Needs.{needs}
 use Rattle.stages.proofs.machine.Machine.play.Statement.{statement}
 use Rattle.stages.proofs.machine.Machine.play.Tie as tie
@@ -80,6 +80,20 @@ returns-5 c =
     let s = c .before .before .before .before .before .before .before .before .before .before .before .before .before .before in
     rw (c .before .before .before .before .before .before .before .before .before .self5 .given .1) (lifted string (s .args .inputs) (s .args .other .now) refl refl (c .before .before .before .before .string-window .ensures))
 
+enum-known-self-6 : tie.Need-enum-known-self-6
+enum-known-self-6 c = search needs
+
+gain-window-requires : tie.Need-gain-window-requires
+gain-window-requires c κs = search needs
+
+same-length-7 : tie.Need-same-length-7
+same-length-7 c = search needs
+
+returns-6 : tie.Need-returns-6
+returns-6 c =
+    let s = c .before .before .before .before .before .before .before .before .before .before in
+    rw (c .before .before .before .before .before .self6 .given .1) (gain-stepped (s .args .inputs) (s .args .other .now) (c .before .before .gain-window .ensures))
+
 pub play-spec : {M : Type 1} → statement M
 play-spec =
     tie.close
@@ -104,4 +118,8 @@ play-spec =
     string-window-requires
     same-length-5
     same-length-6
-    returns-5)
+    returns-5
+    enum-known-self-6
+    gain-window-requires
+    same-length-7
+    returns-6)

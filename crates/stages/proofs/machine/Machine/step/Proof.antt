@@ -58,6 +58,12 @@ returns-5 c =
     rw (c .before .before .before .before .before .before .before .self5 .given .1)
     (ap (λ (t : Step Strung). withStrung (own (s .args .state) (s .args .ring .now)) (t .next)) (c .before .before .before .step4 .ensures), ap (λ (t : Step Strung). t .sample) (c .before .before .before .step4 .ensures))
 
+enum-known-self-6 : tie.Need-enum-known-self-6
+enum-known-self-6 c = search needs
+
+returns-6 : tie.Need-returns-6
+returns-6 c = rw (c .before .self6 .given .1) (refl, refl)
+
 pub step-spec : {M : Type 1} → statement M
 step-spec =
     tie.close
@@ -77,4 +83,6 @@ step-spec =
     enum-known-self-5
     step-requires-4
     same-length
-    returns-5)
+    returns-5
+    enum-known-self-6
+    returns-6)

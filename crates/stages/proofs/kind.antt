@@ -1,0 +1,2 @@
+-- Laws that the proofs of `stages::kind` alone cite.
+mod Lone
