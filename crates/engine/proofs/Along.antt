@@ -19,18 +19,18 @@ use borrow.Author.Tests.{ltb-true}
 use borrow.Rule.Slice.PartMut.{putMid}
 use Rattle.order.specs.Order.{runs}
 use Rattle.order.specs.Checks.{passed, verdict}
-use Rattle.answers.specs.Activity.{greaterOf}
 use Rattle.answers.specs.declared.activity.StageActivity.{StageActivity}
 use Rattle.answers.specs.declared.activity.StageActivity.the-variants.{Exhausted}
 use Rattle.answers.proofs.Tests.{and-left, and-right}
 use Rattle.answers.proofs.Verdicts.{first-passed}
-use Rattle.magnetron.specs.Buffers.{pick, Shape, Banks, write, withLineAt, withLine, laid, marksOf, cleared, activityOf}
+use Rattle.magnetron.specs.Buffers.{pick, Shape, Banks, Write, write, withLineAt, withLine, laid, pairs, marksOf, cleared, louderBy}
 use Rattle.magnetron.specs.Pools.{banksOf}
 use Rattle.magnetron.specs.Inside.Room.{Held}
 use Rattle.magnetron.specs.declared.buffer.Marks.{Marks}
 use Rattle.magnetron.specs.declared.buffer.BufferIndex.{BufferIndex}
 use Rattle.magnetron.specs.declared.buffer.BufferIndex.the-variants.{External, Internal}
 use Rattle.magnetron.specs.declared.pool.Pools.{Pools}
+use Rattle.magnetron.proofs.Writes.{unseen}
 use Rattle.stages.specs.declared.state.State.{State}
 use Rattle.stages.specs.declared.patch.Starts.{Starts}
 use Rattle.stages.specs.Stage.{Own, own, ringFine}
@@ -38,7 +38,7 @@ use Rattle.stages.specs.Rings.{noState, lenIn, ringAt, fineIn}
 use Rattle.stages.specs.Inside.{Bounded, startsOf}
 use Rattle.stages.proofs.EndToEnd.{fine-at, sum-step, starts-at, part-put}
 use Rattle.stages.proofs.Positions.{position-stays}
-use Rattle.engine.specs.Run.{Plan, World, stageAt, ownOf, playedAt, putPlayed, staged, louder, fault, turned, faultOf}
+use Rattle.engine.specs.Run.{Plan, World, stageAt, outsAt, shapeIn, ownOf, playedAt, putPlayed, staged, louder, fault, turned, faultOf}
 use Rattle.engine.specs.Inside.{worldWith, Admitted, Passed, Ready, Turned}
 use Rattle.engine.proofs.Lists.{next-of, rest, last}
 use Rattle.engine.proofs.Faults.{passed-named}
@@ -46,7 +46,7 @@ use Rattle.engine.proofs.Faults.{passed-named}
 -- ---- what a write leaves as it was
 
 module _ (h : Shape) (b : Banks) where
-  pub write-marks : (c : BufferIndex) (vs : List Float) → marksOf (write h (record { to = c; values = vs }) b) ≡ cleared c (marksOf b)
+  write-marks : (c : BufferIndex) (vs : List Float) → marksOf (write h (record { to = c; values = vs }) b) ≡ cleared c (marksOf b)
   unfolding write withLineAt withLine laid cleared
   write-marks (External k) vs = refl
   write-marks (Internal k) vs = refl
@@ -61,6 +61,19 @@ module _ (h : Shape) (b : Banks) where
   write-external (External k) vs = simp length-sets
   write-external (Internal k) vs = refl
 
+-- the same of all writes of a stage
+module _ (h : Shape) where
+  pub writes-marks : (os : List BufferIndex) (vs : List (List Float)) (b : Banks) → marksOf (runs (write h) (pairs os vs) b) ≡ runs cleared os (marksOf b)
+  writes-marks [] vs b = refl
+  writes-marks (o ∷ os) [] b = writes-marks os [] _ ∙ ap (runs cleared os) (write-marks h b o [])
+  writes-marks (o ∷ os) (v ∷ vs) b = writes-marks os vs _ ∙ ap (runs cleared os) (write-marks h b o v)
+
+  writes-internal : (ws : List Write) (b : Banks) → length (runs (write h) ws b .internal .samples) ≡ length (b .internal .samples)
+  writes-internal ws b = unseen (write h) (λ (c : Banks). length (c .internal .samples)) ws (λ u k c. write-internal h c (u .to) (u .values)) b
+
+  writes-external : (ws : List Write) (b : Banks) → length (runs (write h) ws b .external .samples) ≡ length (b .external .samples)
+  writes-external ws b = unseen (write h) (λ (c : Banks). length (c .external .samples)) ws (λ u k c. write-external h c (u .to) (u .values)) b
+
 -- an element after a store is the new one, at its place, or the old one
 pub set-at-or : {A : Type 0} (C : ℕ → A → Type 0) (l : List A) (k i : ℕ) (y d : A) → ((i ≡ k) → C i y) → C i (getD l i d) → C i (getD (set l k y) i d)
 set-at-or C [] k i y d a b = b
@@ -69,11 +82,17 @@ set-at-or C (x ∷ l) zero (suc i) y d a b = b
 set-at-or C (x ∷ l) (suc k) zero y d a b = b
 set-at-or C (x ∷ l) (suc k) (suc i) y d a b = set-at-or (λ (m : ℕ). C (suc m)) l k i y d (λ e. a (ap suc e)) b
 
--- the pools by the output's side
-held-sided : (p : Pools) (o : BufferIndex) (internal external : List Float) (n : ℕ) → Held p (length internal) (length external) n
+-- the pools by an output's side
+pub held-sided : (p : Pools) (o : BufferIndex) (internal external : List Float) (n : ℕ) → Held p (length internal) (length external) n
     → Held p (pick o (length (pick o internal external)) (length (pick o external internal))) (pick o (length (pick o external internal)) (length (pick o internal external))) n
 held-sided p (External k) internal external n h = h
 held-sided p (Internal k) internal external n h = h
+
+pub held-whole : (p : Pools) (o : BufferIndex) (internal external : List Float) (n : ℕ)
+    → Held p (pick o (length (pick o internal external)) (length (pick o external internal))) (pick o (length (pick o external internal)) (length (pick o internal external))) n
+    → Held p (length internal) (length external) n
+held-whole p (External k) internal external n h = h
+held-whole p (Internal k) internal external n h = h
 
 pub bounded : {P : Plan} {ks : List ℕ} {w : World} → Admitted P ks w → Bounded (P .patch)
 bounded {P} {ks} {w} ok = record { few = ok .few; each = λ k h. fine-at (P .patch) (w .states) k (ok .fine k h) }
@@ -125,14 +144,14 @@ module _ {P : Plan} {k : ℕ} {ks : List ℕ} {w : World} (ok : Passed P (k ∷ 
   unfolding staged putPlayed turned
   passed-staged = record {
     admitted = record {
-      pools = rw (write-internal, write-external) (ok .admitted .pools);
+      pools = rw (writes-internal (shapeIn P) (pairs (outsAt P k) (playedAt P k w .outs)) (w .banks), writes-external (shapeIn P) (pairs (outsAt P k) (playedAt P k w .outs)) (w .banks)) (ok .admitted .pools);
       few = ok .admitted .few;
       short = omega (arith, ok .admitted .short);
       below = and-right (ltb k (P .patch .count)) _ (ok .admitted .below);
       fine = fine-after;
       roomy = rw length-sets (ok .admitted .roomy);
     };
-    sound = rw write-marks (turns .1);
+    sound = rw (writes-marks (shapeIn P) (outsAt P k) (playedAt P k w .outs) (w .banks)) (turns .1);
   }
 
   -- ---- the ring as the part that is lent from `at` on
@@ -155,8 +174,8 @@ module _ {P : Plan} {k : ℕ} {ks : List ℕ} {w : World} (ok : Passed P (k ∷ 
     part-ready = rw part-own ready
 
     -- what the turn leaves is a step of the definition
-    pub stepped : {s : State} {m : Marks} {internal external : List Float} (ring : List Float) → length ring ≡ length (part .ring) → m ≡ cleared (stageAt P k .output) (marksOf (w .banks))
-        → Turned (P .pools) (P .window) (P .values) (stageAt P k) part (w .banks) (own s ring) (banksOf internal external (cleared (stageAt P k .output) (marksOf (w .banks))))
+    pub stepped : {s : State} {m : Marks} {internal external : List Float} (ring : List Float) → length ring ≡ length (part .ring) → m ≡ runs cleared (outsAt P k) (marksOf (w .banks))
+        → Turned (P .pools) (P .window) (P .values) (stageAt P k) part (w .banks) (own s ring) (banksOf internal external (runs cleared (outsAt P k) (marksOf (w .banks))))
         → worldWith m (set (w .states) k s) internal external (putMid at (at + len - at) (w .rings) ring) ≡ staged P k w
     unfolding staged putPlayed
     stepped {s} {m} {internal} {external} ring l em t =
@@ -190,7 +209,7 @@ module _ {P : Plan} {ks : List ℕ} {w₀ : World} where
     pub stage-below : j < length ks → getD ks j 0 < 32
     stage-below h = omega (arith, stage-there (along-here h), v .still .admitted .few)
 
-    pub along-more : (w' : World) (a' : StageActivity) → j < length ks → w' ≡ staged P (getD ks j 0) w → a' ≡ greaterOf a (activityOf (stageAt P (getD ks j 0) .output)) → Along P ks w₀ w' a' (j + 1)
+    pub along-more : (w' : World) (a' : StageActivity) → j < length ks → w' ≡ staged P (getD ks j 0) w → a' ≡ runs louderBy (outsAt P (getD ks j 0)) a → Along P ks w₀ w' a' (j + 1)
     unfolding staged putPlayed louder
     along-more w' a' h e f =
         rw (e, f)
@@ -198,8 +217,8 @@ module _ {P : Plan} {ks : List ℕ} {w₀ : World} where
           still = passed-staged (along-here h);
           world = rest (λ (l : List ℕ). runs (staged P) l w) ks j (v .world) h;
           loud = rest (λ (l : List ℕ). runs (louder P) l a) ks j (v .loud) h;
-          internal = rw write-internal (v .internal);
-          external = rw write-external (v .external);
+          internal = writes-internal (shapeIn P) (pairs (outsAt P (getD ks j 0)) (playedAt P (getD ks j 0) w .outs)) (w .banks) ∙ v .internal;
+          external = writes-external (shapeIn P) (pairs (outsAt P (getD ks j 0)) (playedAt P (getD ks j 0) w .outs)) (w .banks) ∙ v .external;
           rings = rw length-sets (v .rings);
         })
 

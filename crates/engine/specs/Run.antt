@@ -1,20 +1,20 @@
--- A RUN, as document 01 has it: demand 2's definition. What `run` answers and leaves is `runOf`, for any input: all checks, then the stages along the order.
+-- A RUN, as documents 01 and 02 have it: demand 2's definition. What `run` answers and leaves is `runOf`, for any input: all checks, then the stages along the order.
 -- What each kind of stage is, the crate `stages` says. What it is to read and to write a buffer, the crate `magnetron` says.
 -- Definitions only. Assumes nothing.
 --
 -- 01's sentences, and where they are said:
 --     "Rings lie end to end in stage-number order in one lent slice."                       ringAt, of stages; ownOf
 --     1 to 4                                                                                entry
---     5, 6, 7, "for each stage along the order"                                             faultOf, fault
+--     5, 8, 6, 7, "for each stage along the order"                                          faultOf, fault
 --     "For 7, a buffer is not stale if it wasn't on entry or an earlier stage of this order writes it."    turned
 --     "All of it precedes the first sample."                                                judged, rendered
 --     "A refusal returns its number, the stage (32 for 1 to 4) and Exhausted; every record and lent slice is unchanged."    judged, afterBy
 --     "Reading gives the first n samples of a buffer, or n zeros where it is stale"         heard, of magnetron; played
 --     "Writing stores on a stale buffer .., and adds .. on any other; then the mark is cleared"    write, of magnetron; putPlayed
---     "Each value is first multiplied by out_level, 1.0 if absent."                         levelAsk, of stages; levelled, of magnetron; along
+--     "Each value is first multiplied by out_level, 1.0 if absent."                         levelAsks, of stages; levelled, of magnetron; sounded
 --     "Activity is that of the output's kind; a run's is the greatest, Exhausted if empty." louder, ended
 use mathlib.Core.Bool.{Bool, true, false, not, _&&_, _||_}
-use mathlib.Core.List.{List, [], _∷_, _++_, map}
+use mathlib.Core.List.{List, [], _∷_, _++_, map, zipWith}
 use mathlib.Core.Option.{Option, none, some}
 use Prim.Native.Nat.{ℕ, _+_}
 use lib.Dec.{eqb, leb, ltb}
@@ -24,27 +24,27 @@ use lib.Ieee.{Float, nan}
 use Rattle.numbers.specs.Constants.{zero64}
 use Rattle.order.specs.Order.{runs}
 use Rattle.order.specs.Checks.{unless, first, verdict}
-use Rattle.answers.specs.Activity.{greaterOf}
 use Rattle.answers.specs.Answer.{refusedAnswer, acceptedAnswer}
 use Rattle.answers.specs.declared.activity.StageActivity.{StageActivity}
 use Rattle.answers.specs.declared.activity.StageActivity.the-variants.{Exhausted}
 use Rattle.answers.specs.declared.verdict.Verdict.{Verdict}
 use Rattle.magnetron.specs.Signals.{tab, stateAt, machine}
-use Rattle.magnetron.specs.Buffers.{Shape, Banks, lineAt, heard, write, pairs, cleared, marksOf, activityOf}
+use Rattle.magnetron.specs.Buffers.{Shape, Banks, lineAt, heard, write, pairs, cleared, marksOf, louderBy}
 use Rattle.magnetron.specs.Pools.{shapeOf, banksOf, marksIn, remarked}
-use Rattle.magnetron.specs.Checks.{shapeOk, windowOk, allThere, noClash}
+use Rattle.magnetron.specs.Checks.{shapeOk, windowOk, allThere, noClash, noneTwice}
 use Rattle.magnetron.specs.Single.{levelled}
 use Rattle.magnetron.specs.declared.buffer.Marks.{Marks}
 use Rattle.magnetron.specs.declared.buffer.BufferIndex.{BufferIndex}
 use Rattle.magnetron.specs.declared.pool.Pools.{Pools}
 use Rattle.microwave.specs.Parameter.{allFound, numberFor, numbersOf}
+use Rattle.microwave.specs.declared.parameter.Ask.{Ask}
 use Rattle.stages.specs.declared.stage.Stage.{Stage}
 use Rattle.stages.specs.declared.patch.Patch.{Patch}
 use Rattle.stages.specs.declared.state.State.{State}
 use Rattle.stages.specs.declared.state.States.{States}
 use Rattle.stages.specs.declared.window.RenderWindow.{RenderWindow}
 use Rattle.stages.specs.declared.machine.Machine.{Machine}
-use Rattle.stages.specs.Stage.{inputsOf, asksOf, levelAsk, Own, own, windowOf, settled, entered, Hears, hear, nextOf, outOf}
+use Rattle.stages.specs.Stage.{inputsOf, secondOf, outputsOf, asksOf, levelAsks, Own, own, windowOf, settled, machinesBy, entered, Hears, hear, nextOf, outOf}
 use Rattle.stages.specs.Rings.{noState, stageIn, lenIn, ringAt, ringsOk}
 use Rattle.engine.specs.declared.run.Ran.{Ran}
 
@@ -99,12 +99,12 @@ worldOf g = record { banks = banksOf (g .internal) (g .external) (marksIn (g .po
 abbrev pub stageAt : Plan → ℕ → Stage
 stageAt P k = stageIn (P .patch) k
 
--- the buffers that stage k reads, and those that it writes: its one output
+-- the buffers that stage k reads, and those that it writes
 abbrev pub insAt : Plan → ℕ → List BufferIndex
 insAt P k = inputsOf (stageAt P k .kind)
 
 abbrev pub outsAt : Plan → ℕ → List BufferIndex
-outsAt P k = stageAt P k .output ∷ []
+outsAt P k = outputsOf (stageAt P k)
 
 -- ---- the checks
 
@@ -134,15 +134,17 @@ entry P zeros ks w =
     (first (unless (orderly (P .patch .count) ks) 3)
     (unless (ringsOk (P .patch) (w .states) (length (w .rings))) 4)))
 
--- "Then 5, 6, 7 for each stage along the order.": of one stage, at the marks of its turn
+-- "Then 5, 6, 7 for each stage along the order.", and 8, "checked after 5 and before 6": of one stage, at the marks of its turn
 --     5   "a stage names a buffer that isn't there"
---     6   "a parameter's slot is past the lent values, or a required parameter is absent"
---     7   "the window isn't empty and a stage's output is also one of its inputs and is not stale at its turn"
+--     8   "both outputs are the same buffer at any window length"
+--     6   "a parameter's slot is past the lent values, or a required parameter is absent", "also where just one level of the pair is absent"
+--     7   "the window isn't empty and a stage's output is also one of its inputs and is not stale at its turn": it "looks at both"
 unfoldable pub faultOf : Pools → RenderWindow → List Float → Stage → Marks → Option ℕ
 faultOf pools window values stage m =
-    first (unless (allThere pools (inputsOf (stage .kind) ++ (stage .output ∷ []))) 5)
-    (first (unless (allFound (levelAsk stage ∷ asksOf (stage .kind)) values (window .«render_window_secs»)) 6)
-    (unless (noClash (window .«buffer_len») (inputsOf (stage .kind)) (stage .output ∷ []) m) 7))
+    first (unless (allThere pools (inputsOf (stage .kind) ++ outputsOf stage)) 5)
+    (first (unless (noneTwice (outputsOf stage)) 8)
+    (first (unless (allFound (levelAsks stage ++ asksOf (stage .kind)) values (window .«render_window_secs»)) 6)
+    (unless (noClash (window .«buffer_len») (inputsOf (stage .kind)) (outputsOf stage) m) 7)))
 
 -- a refusal that names its stage
 abbrev pub named : ℕ → Option ℕ → Option Verdict
@@ -173,20 +175,28 @@ pub record Played : Type 0 where
   pub kept : Own
   pub outs : List (List Float)
 
--- a machine along n samples of its inputs; what it answers is multiplied by the level
-abbrev pub along : Machine → ℕ → Float → Own → List (List Float) → Played
-along m n level o ins = record {
-  kept = stateAt (nextOf m) o (hears ins) n;
-  outs = levelled level (tab n (machine (nextOf m) (outOf m) o (hears ins))) ∷ [];
-}
+-- what a machine answers along n samples of its inputs, each multiplied by its output's level
+abbrev pub sounded : ℕ → Own → List (List Float) → Float → Machine → List Float
+sounded n o ins level m = levelled level (tab n (machine (nextOf m) (outOf m) o (hears ins)))
 
--- a stage that has `o` to itself, where the pools are as `b` says: its parameters as numbers, the start of the window, then its machine
+-- "n samples of a buffer, or n zeros where it is stale", of each input, where the pools are as `b` says
+abbrev pub heardOf : Pools → ℕ → List BufferIndex → Banks → List (List Float)
+heardOf pools n ins b = map (λ (a : BufferIndex). heard n (lineAt (shapeOf pools n) a b)) ins
+
+-- A stage that has `o` to itself: its parameters as numbers, the start of the window, then a machine to each output. What is heard is heard
+-- before anything is written, and what is remembered is the machine's of the stage's own output.
 abbrev pub played : Pools → RenderWindow → List Float → Stage → Own → Banks → Played
 played pools window values stage o b =
     let q = numbersOf (asksOf (stage .kind)) values (window .«render_window_secs») in
-    along (settled (stage .kind) q window (o .state)) (window .«buffer_len») (numberFor (levelAsk stage) values (window .«render_window_secs»))
-    (own (entered (stage .kind) q (o .state)) (o .ring))
-    (map (λ (a : BufferIndex). heard (window .«buffer_len») (lineAt (shapeOf pools (window .«buffer_len»)) a b)) (inputsOf (stage .kind)))
+    let m = settled (stage .kind) q window (o .state) in
+    let start = own (entered (stage .kind) q (o .state)) (o .ring) in
+    let ins = heardOf pools (window .«buffer_len») (inputsOf (stage .kind)) b in
+    record {
+      kept = stateAt (nextOf m) start (hears ins) (window .«buffer_len»);
+      outs =
+          zipWith (sounded (window .«buffer_len») start ins) (map (λ (ask : Ask). numberFor ask values (window .«render_window_secs»)) (levelAsks stage))
+          (machinesBy (secondOf (stage .kind)) m q);
+    }
 
 -- what stage k has to itself: its state record, and its part of the rings
 unfoldable pub ownOf : Plan → ℕ → World → Own
@@ -210,9 +220,9 @@ putPlayed P k a w = record {
 unfoldable pub staged : Plan → ℕ → World → World
 staged P k w = putPlayed P k (playedAt P k w) w
 
--- an activity, or that of stage k where it is greater: "Activity is that of the output's kind"
+-- an activity, or that of stage k where it is greater: "Activity is that of the output's kind", or "the greater of the two"
 unfoldable pub louder : Plan → ℕ → StageActivity → StageActivity
-louder P k a = runs (λ (b : BufferIndex) (c : StageActivity). greaterOf c (activityOf b)) (outsAt P k) a
+louder P k a = runs louderBy (outsAt P k) a
 
 -- ---- the run
 

@@ -1,28 +1,31 @@
-// The checks of a run, all of them before the first sample: 1 to 4 of what is lent, then 5, 6, 7 of each stage along the order.
+// The checks of a run, all of them before the first sample: 1 to 4 of what is lent, then 5, 8, 6, 7 of each stage along the order.
 // Rests on magnetron's checks of pools and buffers, and on microwave's look-up of parameters.
 use crate::records::Records;
 use answers::verdict::Verdict;
 use answers::verdict::done;
 use answers::verdict::refusal;
 use magnetron::buffer::Marks;
-use magnetron::check::all_there;
 use magnetron::check::check_prepare;
-use magnetron::check::no_clash;
 use magnetron::pool::Pools;
 use microwave::parameter::Found;
 use microwave::parameter::lookup;
 use microwave::parameter::missing;
+use microwave::parameter::of_pair;
+use microwave::parameter::or_one;
+use stages::kind::Second;
 use stages::patch::Patch;
 use stages::stage::Stage;
 use stages::window::RenderWindow;
 ghost use mathlib.Core.Path.{_≡_};
-ghost use mathlib.Core.Bool.{true};
+ghost use mathlib.Core.Bool.{true, not};
 ghost use mathlib.Core.List.{[]};
 ghost use Prim.Native.Nat.{_≤_};
 ghost use lib.ListN.{drop};
 ghost use Rattle.order.specs.Checks.{verdict};
 ghost use Rattle.answers.specs.Verdict.{verdictOf};
 ghost use Rattle.magnetron.specs.Pools.{marksIn};
+ghost use Rattle.microwave.specs.Parameter.{allFound};
+ghost use Rattle.stages.specs.Stage.{levelAsks};
 ghost use Rattle.engine.specs.Run.{allBelow, holds, orderly, entry, faultOf, fault, turned, judged};
 ghost use Rattle.engine.specs.Inside.{returned, planWith, planIn, worldIn};
 
@@ -92,7 +95,29 @@ fn check_entry(
     done()
 }
 
-// Checks 5, 6, 7 of one stage at its turn: 0, or the number.
+// Whether a level of a stage's outputs gives no number.
+fn level_missing(stage: Stage, values: &[f64], seconds: f64) -> bool
+    ensures { λ r. ⌜ r ≡ not (allFound (levelAsks stage) (now (values .entry)) seconds) ⌝ }
+{
+    let level = stage.out_level;
+    let kind = stage.kind;
+    let Second::Right(side) = kind.second() else {
+        let Found::Number(_) = lookup(or_one(level), values, seconds) else {
+            return true;
+        };
+        return false;
+    };
+    let right = side.out_level;
+    let Found::Number(_) = lookup(of_pair(level, right), values, seconds) else {
+        return true;
+    };
+    let Found::Number(_) = lookup(of_pair(right, level), values, seconds) else {
+        return true;
+    };
+    false
+}
+
+// Checks 5, 8, 6, 7 of one stage at its turn: 0, or the number.
 fn stage_fault(
     stage: Stage,
     pools: Pools,
@@ -103,24 +128,27 @@ fn stage_fault(
     ensures { λ r. ⌜ r ≡ verdictOf (faultOf pools window (now (values .entry)) stage marks) .number ⌝ }
 {
     let kind = stage.kind;
-    let output = stage.output;
     let inputs = kind.inputs();
-    if !all_there(pools, inputs, output) {
+    let outputs = stage.outputs();
+    if !outputs.there(pools, inputs) {
         return 5;
     }
-    let Found::Number(_) = lookup(stage.level_ask(), values, window.render_window_secs) else {
+    if !outputs.differ() {
+        return 8;
+    }
+    if level_missing(stage, values, window.render_window_secs) {
         return 6;
-    };
+    }
     if missing(kind.asks(), values, window.render_window_secs) != 0 {
         return 6;
     }
-    if !no_clash(window.buffer_len, inputs, output, marks) {
+    if !outputs.clear_of(window.buffer_len, inputs, marks) {
         return 7;
     }
     0
 }
 
-// Checks 5, 6, 7 of each stage along the order.
+// Checks 5, 8, 6, 7 of each stage along the order.
 fn check_stages(
     patch: Patch,
     order: &[u8],
@@ -140,8 +168,8 @@ fn check_stages(
         if number != 0 {
             return Verdict { number, stage: k };
         }
-        let output = stage.output;
-        marks = marks.clear(output);
+        let outputs = stage.outputs();
+        marks = outputs.clear(marks);
         j += 1;
     }
     done()

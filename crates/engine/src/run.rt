@@ -3,7 +3,6 @@ use crate::check::judge;
 use crate::records::Records;
 use crate::turn::Turn;
 use answers::activity::StageActivity;
-use answers::activity::greater;
 use answers::answer::Answer;
 use answers::answer::accepted;
 use answers::answer::refused;
@@ -63,9 +62,9 @@ fn run_order(
         };
         let next = turn.take(values, ring, internal, external);
         states.stages[k] = next;
-        let output = stage.output;
-        marks = marks.clear(output);
-        activity = greater(activity, output.stage_activity());
+        let outputs = stage.outputs();
+        marks = outputs.clear(marks);
+        activity = outputs.louder(activity);
         j += 1;
     }
     Ran {

@@ -1,4 +1,4 @@
-// A stage's turn, once the checks have passed: it reads its inputs, plays its window and writes its output.
+// A stage's turn, once the checks have passed: it reads its inputs, plays its window and writes its outputs.
 // Rests on what the checks have established (`Ready`), and on the machines of machine.rt.
 use magnetron::buffer::BufferIndex;
 use magnetron::buffer::Marks;
@@ -9,15 +9,22 @@ use magnetron::source::Source;
 use magnetron::source::source_of;
 use microwave::parameter::Asks;
 use microwave::parameter::numbers_found;
+use microwave::parameter::of_pair;
+use microwave::parameter::required;
+use microwave::window::gain_window;
+use stages::kind::Second;
+use stages::kind::Side;
 use stages::machine::Sources;
 use stages::stage::Stage;
 use stages::state::State;
 use stages::window::RenderWindow;
 ghost use mathlib.Core.Path.{_≡_};
+ghost use Prim.Native.Nat.{_≤_};
+ghost use Rattle.order.specs.Order.{runs};
 ghost use Rattle.magnetron.specs.Buffers.{pick, cleared, listOf};
-ghost use Rattle.magnetron.specs.Pools.{banksOf, sided};
-ghost use Rattle.stages.specs.Stage.{own as owned};
-ghost use Rattle.engine.specs.Inside.{Placed, sourcesOf, Ready, Turned};
+ghost use Rattle.magnetron.specs.Pools.{baseOf, banksOf, sided};
+ghost use Rattle.stages.specs.Stage.{outputsOf, own as owned};
+ghost use Rattle.engine.specs.Inside.{Placed, sourcesOf, targetOf, Wired, Ready, Begun, secondIn, Turned};
 
 // Where the loop that writes `output` finds the inputs.
 fn sources(inputs: Inputs, pools: Pools, marks: Marks, output: BufferIndex) -> Sources
@@ -49,11 +56,24 @@ pub(crate) struct Turn {
     pub window: RenderWindow,
 }
 
+// Where an output is written, and how: by its own mark.
+fn target_of(pools: Pools, marks: Marks, samples: usize, output: BufferIndex, level: f64) -> Target
+    requires { ⌜ baseOf pools output ≤ 65536 ⌝ }
+    ensures { λ r. ⌜ r ≡ targetOf pools marks samples output level ⌝ }
+{
+    Target {
+        base: pools.base_of(output),
+        samples,
+        stale: marks.at(output),
+        level,
+    }
+}
+
 impl Turn {
-    // One window: `own` is the pool of the output, `ring` the stage's ring.
+    // One window of the stage's own output: `own` is its pool, `ring` the stage's ring.
     fn render(self, values: &[f64], ring: &mut [f64], own: &mut [f64], other: &[f64]) -> State
         requires { ⌜ Ready (self .pools) (self .window) (now values) (self .stage) (self .marks) (owned (self .state) (now ring)) (now own) (now other) ⌝ }
-        ensures { λ r. ⌜ Turned (self .pools) (self .window) (now (values .entry)) (self .stage)
+        ensures { λ r. ⌜ Begun (self .pools) (self .window) (now (values .entry)) (self .stage)
             (owned (self .state) (now (ring .entry))) (sided (self .stage .output) (now (own .entry)) (now (other .entry)) (self .marks))
             (owned r (now (ring .exit))) (sided (self .stage .output) (now (own .exit)) (now (other .entry)) (cleared (self .stage .output) (self .marks))) ⌝ }
     {
@@ -61,14 +81,15 @@ impl Turn {
         let kind = stage.kind;
         let output = stage.output;
         let seconds = self.window.render_window_secs;
-        let level = numbers_found(Asks::One(stage.level_ask()), values, seconds);
+        let levels = numbers_found(stage.level_asks(), values, seconds);
         let numbers = numbers_found(kind.asks(), values, seconds);
-        let target = Target {
-            base: self.pools.base_of(output),
-            samples: self.window.buffer_len,
-            stale: self.marks.at(output),
-            level: level.first,
-        };
+        let target = target_of(
+            self.pools,
+            self.marks,
+            self.window.buffer_len,
+            output,
+            levels.first,
+        );
         let inputs = sources(kind.inputs(), self.pools, self.marks, output);
         let machine = kind.settle(numbers, self.window, self.state);
         machine.play(
@@ -81,8 +102,8 @@ impl Turn {
         )
     }
 
-    // The output's kind picks the pool that is written.
-    pub(crate) fn take(
+    // The kind of the stage's own output picks the pool that is written.
+    fn begin(
         self,
         values: &[f64],
         ring: &mut [f64],
@@ -91,7 +112,7 @@ impl Turn {
     ) -> State
         requires { ⌜ Ready (self .pools) (self .window) (now values) (self .stage) (self .marks) (owned (self .state) (now ring))
             (pick (self .stage .output) (now internal) (now external)) (pick (self .stage .output) (now external) (now internal)) ⌝ }
-        ensures { λ r. ⌜ Turned (self .pools) (self .window) (now (values .entry)) (self .stage)
+        ensures { λ r. ⌜ Begun (self .pools) (self .window) (now (values .entry)) (self .stage)
             (owned (self .state) (now (ring .entry))) (banksOf (now (internal .entry)) (now (external .entry)) (self .marks))
             (owned r (now (ring .exit))) (banksOf (now (internal .exit)) (now (external .exit)) (cleared (self .stage .output) (self .marks))) ⌝ }
     {
@@ -103,6 +124,64 @@ impl Turn {
             }
             BufferIndex::Internal(_) => {
                 return self.render(values, ring, internal, external);
+            }
+        }
+    }
+
+    // One window of a second output, once the stage's own is written: the marks, and so what is heard, are still those of before.
+    fn render_second(self, side: Side, values: &[f64], own: &mut [f64], other: &[f64])
+        requires { ⌜ Wired (self .pools) (self .window) (self .stage) (self .marks) (side .output) (now own) (now other) ⌝ }
+        ensures { λ _. ⌜ now (own .exit) ≡ secondIn (self .pools) (self .window) (now (values .entry)) (self .stage) (self .marks) side (now (own .entry)) (now (other .entry)) ⌝ }
+    {
+        let stage = self.stage;
+        let kind = stage.kind;
+        let output = side.output;
+        let level = side.out_level;
+        let left_level = stage.out_level;
+        let gain = side.gain;
+        let asks = Asks::Two(of_pair(level, left_level), required(gain));
+        let numbers = numbers_found(asks, values, self.window.render_window_secs);
+        let target = target_of(
+            self.pools,
+            self.marks,
+            self.window.buffer_len,
+            output,
+            numbers.first,
+        );
+        let inputs = sources(kind.inputs(), self.pools, self.marks, output);
+        let first = inputs.first;
+        gain_window(numbers.second, own, other, first, target);
+    }
+
+    // Both outputs, or the one that there is.
+    pub(crate) fn take(
+        self,
+        values: &[f64],
+        ring: &mut [f64],
+        internal: &mut [f64],
+        external: &mut [f64],
+    ) -> State
+        requires { ⌜ Ready (self .pools) (self .window) (now values) (self .stage) (self .marks) (owned (self .state) (now ring))
+            (pick (self .stage .output) (now internal) (now external)) (pick (self .stage .output) (now external) (now internal)) ⌝ }
+        ensures { λ r. ⌜ Turned (self .pools) (self .window) (now (values .entry)) (self .stage)
+            (owned (self .state) (now (ring .entry))) (banksOf (now (internal .entry)) (now (external .entry)) (self .marks))
+            (owned r (now (ring .exit))) (banksOf (now (internal .exit)) (now (external .exit)) (runs cleared (outputsOf (self .stage)) (self .marks))) ⌝ }
+    {
+        let next = self.begin(values, ring, internal, external);
+        let stage = self.stage;
+        let kind = stage.kind;
+        let Second::Right(side) = kind.second() else {
+            return next;
+        };
+        let right = side.output;
+        match right {
+            BufferIndex::External(_) => {
+                self.render_second(side, values, external, internal);
+                return next;
+            }
+            BufferIndex::Internal(_) => {
+                self.render_second(side, values, internal, external);
+                return next;
             }
         }
     }

@@ -47,6 +47,9 @@ stage-fault-requires c κs = search needs
 returns : tie.Need-returns Inv-loop μ-loop
 returns c = stages-stop _ _ _ _ (c .before .before .before .before .before .loop .inv) _ (c .before .before .before .before .loop-test .taken) (c .before .stage-fault .ensures) (c .if1 .taken)
 
+outputs-requires : tie.Need-outputs-requires Inv-loop μ-loop
+outputs-requires c κs = search needs
+
 clear-requires : tie.Need-clear-requires Inv-loop μ-loop
 clear-requires c κs = search needs
 
@@ -57,7 +60,10 @@ loop-less : tie.Need-loop-less Inv-loop μ-loop
 loop-less c = omega arith
 
 loop-again : tie.Need-loop-again Inv-loop μ-loop
-loop-again c = stages-go _ _ _ _ (c .before .before .before .before .before .before .loop .inv) _ _ (c .before .before .before .before .before .loop-test .taken) (c .before .before .stage-fault .ensures) (c .before .if1 .left) (c .clear .ensures)
+loop-again c =
+    let t = c .before .before .before .before .before .before in
+    stages-go _ _ _ _ (t .before .loop .inv) _ _ (t .loop-test .taken) (c .before .before .before .stage-fault .ensures) (c .before .before .if1 .left)
+    (rw (c .before .outputs .ensures) at (c .clear .ensures))
 
 done-requires : tie.Need-done-requires Inv-loop μ-loop
 done-requires c κs = search needs
@@ -79,6 +85,7 @@ check-stages-spec =
     element-copy-out-stage
     stage-fault-requires
     returns
+    outputs-requires
     clear-requires
     add-j
     loop-less

@@ -1,10 +1,9 @@
 -- `engine::run::run_order` meets its contract: the invariant is that the stages so far are done as defined, and that those left still pass their checks (`Along`). Assumes nothing.
-use mathlib.Core.Path.{refl, sym, ap, _∙_}
+use mathlib.Core.Path.{refl, sym}
 use Prim.Native.Nat.{_-_}
 use native.Mathlib.Omega.{arith}
 use lib.ListN.{length}
 use borrow.Author.Needs.{needs}
-use Rattle.answers.specs.Activity.{greaterOf}
 use Rattle.magnetron.specs.Pools.{marksIn}
 use Rattle.engine.specs.Run.{afterBy}
 use Rattle.engine.specs.Inside.{planWith, worldWith}
@@ -98,14 +97,14 @@ element-set-from-next c =
     let t = c .before .before .before .before .before .before .before .before .before .before .before .before .before .before .before in
     omega (arith, stage-below (t .before .loop .inv) (t .loop-test .taken))
 
+outputs-requires : tie.Need-outputs-requires Inv-loop μ-loop
+outputs-requires c κs = search needs
+
 clear-requires : tie.Need-clear-requires Inv-loop μ-loop
 clear-requires c κs = search needs
 
-stage-activity-requires : tie.Need-stage-activity-requires Inv-loop μ-loop
-stage-activity-requires c κs = search needs
-
-greater-requires : tie.Need-greater-requires Inv-loop μ-loop
-greater-requires c κs = search needs
+louder-requires : tie.Need-louder-requires Inv-loop μ-loop
+louder-requires c κs = search needs
 
 add-j : tie.Need-add-j Inv-loop μ-loop
 add-j c =
@@ -123,8 +122,8 @@ loop-again c =
     let ok = along-here (w .loop .inv) (t .loop-test .taken) in
     along-more (w .loop .inv) _ _ (t .loop-test .taken)
     (stepped ok _ _ (started ok (w .before .before .before .ring-starts .ensures)) (n .before .before .before .before .ring-len .ensures)
-    (n .take .last .1 .1 .0) (n .take .kept .1 .1 .0) (c .before .before .clear .ensures) (n .take .ensures))
-    (c .greater .ensures ∙ ap (greaterOf (w .loop .activity)) (c .before .stage-activity .ensures))
+    (n .take .last .1 .1 .0) (n .take .kept .1 .1 .0) (rw (c .before .before .outputs .ensures) at (c .before .clear .ensures)) (n .take .ensures))
+    (rw (c .before .before .outputs .ensures) at (c .louder .ensures))
 
 accepted-requires : tie.Need-accepted-requires Inv-loop μ-loop
 accepted-requires c κs = search needs
@@ -173,9 +172,9 @@ run-order-spec =
     take-requires
     mul-next
     element-set-from-next
+    outputs-requires
     clear-requires
-    stage-activity-requires
-    greater-requires
+    louder-requires
     add-j
     loop-less
     loop-again

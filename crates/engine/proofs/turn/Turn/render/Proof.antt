@@ -1,12 +1,12 @@
 -- `engine::turn::Turn::render` meets its contract: the machine that the numbers settle, played on the sources. Assumes nothing.
 use Rattle.microwave.specs.Parameter.{numbersOf}
-use Rattle.engine.proofs.turn.Turns.{output-small, inputs-placed, playable, rendered}
+use Rattle.engine.proofs.turn.Turns.{output-small, inputs-placed, own-wired, playable, begun}
 use borrow.Author.Needs.{needs}
 use Rattle.engine.proofs.turn.Turn.render.Statement.{statement}
 use Rattle.engine.proofs.turn.Turn.render.Tie as tie
 
-level-ask-requires : tie.Need-level-ask-requires
-level-ask-requires c κs = search needs
+level-asks-requires : tie.Need-level-asks-requires
+level-asks-requires c κs = search needs
 
 numbers-found-requires : tie.Need-numbers-found-requires
 numbers-found-requires c κs = search needs
@@ -17,17 +17,14 @@ asks-requires c κs = search needs
 numbers-found-requires-2 : tie.Need-numbers-found-requires-2
 numbers-found-requires-2 c κs = search needs
 
-base-of-requires : tie.Need-base-of-requires
-base-of-requires c κs = output-small (c .before .before .before .before .before .before .before .before .before .pre)
-
-at-requires : tie.Need-at-requires
-at-requires c κs = search needs
+target-of-requires : tie.Need-target-of-requires
+target-of-requires c κs = output-small (own-wired (c .before .before .before .before .before .before .before .before .before .pre))
 
 inputs-requires : tie.Need-inputs-requires
 inputs-requires c κs = search needs
 
 sources-requires : tie.Need-sources-requires
-sources-requires c κs = rw (c .inputs .ensures) (inputs-placed (c .before .before .before .before .before .before .before .before .before .before .before .before .pre))
+sources-requires c κs = rw (c .inputs .ensures) (inputs-placed (own-wired (c .before .before .before .before .before .before .before .before .before .before .before .pre)))
 
 settle-requires : tie.Need-settle-requires
 settle-requires c κs = search needs
@@ -39,8 +36,8 @@ play-requires : tie.Need-play-requires
 unfolding numbersOf
 play-requires c κs =
     let e = c .before .before in
-    let n = e .before .before .before .before .before .before in
-    rw (e .before .settle .ensures, e .enter .ensures, n .numbers-found2 .ensures, n .before .asks .ensures, e .before .before .sources .ensures, e .before .before .before .inputs .ensures, e .before .before .before .before .before .base-of .ensures, e .before .before .before .before .at .ensures, n .before .before .numbers-found .ensures, n .before .before .before .level-ask .ensures)
+    let n = e .before .before .before .before .before in
+    rw (e .before .settle .ensures, e .enter .ensures, n .numbers-found2 .ensures, n .before .asks .ensures, e .before .before .sources .ensures, e .before .before .before .inputs .ensures, e .before .before .before .before .target-of .ensures, n .before .before .numbers-found .ensures, n .before .before .before .level-asks .ensures)
     (playable (n .before .before .before .before .before .before .before .before .before .pre))
 
 same-length : tie.Need-same-length
@@ -53,21 +50,20 @@ returns : tie.Need-returns
 unfolding numbersOf
 returns c =
     let e = c .before .before .before .before .before .before .before in
-    let n = e .before .before .before .before .before .before in
-    rendered (n .before .before .before .before .before .before .before .before .before .pre) _ _
-    (rw (e .before .settle .ensures, e .enter .ensures, n .numbers-found2 .ensures, n .before .asks .ensures, e .before .before .sources .ensures, e .before .before .before .inputs .ensures, e .before .before .before .before .before .base-of .ensures, e .before .before .before .before .at .ensures, n .before .before .numbers-found .ensures, n .before .before .before .level-ask .ensures)
+    let n = e .before .before .before .before .before in
+    begun (n .before .before .before .before .before .before .before .before .before .pre) _ _
+    (rw (e .before .settle .ensures, e .enter .ensures, n .numbers-found2 .ensures, n .before .asks .ensures, e .before .before .sources .ensures, e .before .before .before .inputs .ensures, e .before .before .before .before .target-of .ensures, n .before .before .numbers-found .ensures, n .before .before .before .level-asks .ensures)
     at (c .before .before .before .before .play .ensures))
 
 pub render-spec : {M : Type 1} → statement M
 render-spec =
     tie.close
     (tie.spec
-    level-ask-requires
+    level-asks-requires
     numbers-found-requires
     asks-requires
     numbers-found-requires-2
-    base-of-requires
-    at-requires
+    target-of-requires
     inputs-requires
     sources-requires
     settle-requires
