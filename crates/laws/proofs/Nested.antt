@@ -26,8 +26,8 @@ use Rattle.magnetron.specs.declared.pool.Pool.{Pool}
 use Rattle.magnetron.specs.declared.pool.Pools.{Pools}
 use Rattle.magnetron.proofs.Stores.{mark-other, differ}
 use Rattle.magnetron.proofs.Stays.{prepare-keeps}
-use Rattle.engine.specs.Run.{Plan, World, outsAt, staged, putPlayed, judged, ended, rendered, Given, After, afterBy, planOf, worldOf, runOf}
-use Rattle.engine.proofs.Along.{write-marks}
+use Rattle.engine.specs.Run.{Plan, World, outsAt, shapeIn, playedAt, staged, putPlayed, judged, ended, rendered, Given, After, afterBy, planOf, worldOf, runOf}
+use Rattle.engine.proofs.Along.{writes-marks}
 use Rattle.laws.specs.Nested.{nestedIn, outerPools, writes}
 use Rattle.laws.proofs.Refusals.{refused-unchanged}
 use Rattle.laws.proofs.TwoOrders.{went, stopped}
@@ -66,7 +66,7 @@ module _ (P : Plan) where
   -- what a stage's turn leaves of a mark
   stale-staged : (b : BufferIndex) (k : ℕ) (w : World) → staleAt b (marksOf (staged P k w .banks)) ≡ (staleAt b (marksOf (w .banks)) && not (hits b (outsAt P k)))
   unfolding staged putPlayed
-  stale-staged b k w = rw write-marks (stale-among b (outsAt P k) (marksOf (w .banks)))
+  stale-staged b k w = rw (writes-marks (shapeIn P) (outsAt P k) (playedAt P k w .outs) (w .banks)) (stale-among b (outsAt P k) (marksOf (w .banks)))
 
   stale-after : (b : BufferIndex) (ks : List ℕ) (w : World) → staleAt b (marksOf (runs (staged P) ks w .banks)) ≡ (staleAt b (marksOf (w .banks)) && not (writes P ks b))
   stale-after b [] w = sym (and-true (staleAt b (marksOf (w .banks))))

@@ -17,7 +17,7 @@ use Rattle.stages.specs.declared.machine.Machine.{Machine}
 use Rattle.stages.specs.declared.machine.Machine.the-variants as machine
 use Rattle.stages.specs.declared.window.RenderWindow.{RenderWindow}
 use Rattle.stages.specs.declared.kind.Kind.{Kind}
-use Rattle.stages.specs.declared.kind.Kind.the-variants.{Pass, Pow3, Clip, Filter, Oscillator, ModOscillator, Waveguide, RingModulator}
+use Rattle.stages.specs.declared.kind.Kind.the-variants.{Pass, Pow3, Clip, Filter, Oscillator, ModOscillator, Waveguide, RingModulator, Pan}
 use Rattle.stages.specs.declared.state.State.{State}
 use Rattle.stages.specs.Stage.{Own, own, filterMachine, settled, entered, Hears, nextOf}
 use Rattle.stages.specs.Rings.{noState, stageIn}
@@ -47,6 +47,7 @@ machineFamily (machine.Oscillator k) = phases
 machineFamily (machine.OnePole k) = one-pole
 machineFamily (machine.Biquad k) = biquad
 machineFamily (machine.Waveguide k) = string
+machineFamily (machine.Gain gain) = no-memory
 
 next-part : (m : Machine) (o : Own) (x : Hears) → AlikeBut (machineFamily m) (o .state) (nextOf m o x .state)
 next-part (machine.Plain k) o x = refl
@@ -54,6 +55,7 @@ next-part (machine.Oscillator k) o x = (refl, refl, refl)
 next-part (machine.OnePole k) o x = (refl, refl, refl)
 next-part (machine.Biquad k) o x = (refl, refl, refl)
 next-part (machine.Waveguide k) o x = (refl, refl, refl)
+next-part (machine.Gain gain) o x = refl
 
 window-part : (m : Machine) (o : Own) (x : ℕ → Hears) (n : ℕ) → AlikeBut (machineFamily m) (o .state) (stateAt (nextOf m) o x n .state)
 unfolding stateAt
@@ -81,6 +83,7 @@ kind-family (Oscillator o) q window s = refl
 kind-family (ModOscillator a o m) q window s = refl
 kind-family (Waveguide a g) q window s = refl
 kind-family (RingModulator a b) q window s = refl
+kind-family (Pan a gain right) q window s = refl
 
 entered-part : (k : Kind) (q : Numbers) (s : State) → AlikeBut (familyOf k) s (entered k q s)
 entered-part (Pass a) q s = refl
@@ -91,6 +94,7 @@ entered-part (Oscillator o) q s = (refl, refl, refl)
 entered-part (ModOscillator a o m) q s = (refl, refl, refl)
 entered-part (Waveguide a g) q s = (refl, refl, refl)
 entered-part (RingModulator a b) q s = refl
+entered-part (Pan a gain right) q s = refl
 
 stage-part : (k : Kind) (q : Numbers) (window : RenderWindow) (s : State) (ring : List Float) (x : ℕ → Hears) (n : ℕ)
     → AlikeBut (familyOf k) s (stateAt (nextOf (settled k q window s)) (own (entered k q s) ring) x n .state)

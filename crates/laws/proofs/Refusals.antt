@@ -1,5 +1,5 @@
 -- WHAT A RUN ANSWERS, AND WHAT A REFUSED ONE LEAVES, read off the definition of a run for any patch, order and lent slices.
---     answered             0 comes with stage 32, 1 to 4 with stage 32, and 5 to 7 with a stage of the order
+--     answered             0 comes with stage 32, 1 to 4 with stage 32, and 5 to 8 with a stage of the order
 --     refused-unchanged    nothing but the answer is new, and its activity is Exhausted
 -- Assumes nothing.
 use mathlib.Core.Path.{_≡_, refl}
@@ -18,10 +18,10 @@ use Rattle.answers.specs.declared.verdict.Verdict.{Verdict}
 use Rattle.answers.specs.declared.activity.StageActivity.the-variants.{Exhausted}
 use Rattle.answers.specs.declared.answer.Answer.{Answer}
 use Rattle.magnetron.specs.Buffers.{marksOf}
-use Rattle.magnetron.specs.Checks.{shapeOk, windowOk, allThere, noClash}
+use Rattle.magnetron.specs.Checks.{shapeOk, windowOk, allThere, noClash, noneTwice}
 use Rattle.magnetron.specs.declared.buffer.Marks.{Marks}
 use Rattle.microwave.specs.Parameter.{allFound}
-use Rattle.stages.specs.Stage.{inputsOf, asksOf, levelAsk}
+use Rattle.stages.specs.Stage.{inputsOf, outputsOf, asksOf, levelAsks}
 use Rattle.stages.specs.Rings.{ringsOk}
 use Rattle.engine.specs.Run.{Plan, World, stageAt, orderly, Given, After, after, planOf, worldOf, entry, faultOf, named, fault, turned, judged, ended, rendered, afterBy, runOf}
 
@@ -45,24 +45,25 @@ entry-names P zeros ks w =
     go true true true false = (omega arith, omega arith, inl refl)
     go true true true true = tt
 
-fault-names : (P : Plan) (k : ℕ) (ks : List ℕ) (m : Marks) → Names 5 7 (k ∷ ks) (fault P k m)
+fault-names : (P : Plan) (k : ℕ) (ks : List ℕ) (m : Marks) → Names 5 8 (k ∷ ks) (fault P k m)
 unfolding fault faultOf
 fault-names P k ks m =
     let t = stageAt P k in
-    go (allThere (P .pools) (inputsOf (t .kind) ++ (t .output ∷ []))) (allFound (levelAsk t ∷ asksOf (t .kind)) (P .values) (P .window .«render_window_secs»))
-    (noClash (P .window .«buffer_len») (inputsOf (t .kind)) (t .output ∷ []) m)
+    go (allThere (P .pools) (inputsOf (t .kind) ++ outputsOf t)) (noneTwice (outputsOf t)) (allFound (levelAsks t ++ asksOf (t .kind)) (P .values) (P .window .«render_window_secs»))
+    (noClash (P .window .«buffer_len») (inputsOf (t .kind)) (outputsOf t) m)
   where
-    go : (a b c : Bool) → Names 5 7 (k ∷ ks) (named k (first (unless a 5) (first (unless b 6) (unless c 7))))
-    go false b c = (omega arith, omega arith, inl refl)
-    go true false c = (omega arith, omega arith, inl refl)
-    go true true false = (omega arith, omega arith, inl refl)
-    go true true true = tt
+    go : (a b c d : Bool) → Names 5 8 (k ∷ ks) (named k (first (unless a 5) (first (unless b 8) (first (unless c 6) (unless d 7)))))
+    go false b c d = (omega arith, omega arith, inl refl)
+    go true false c d = (omega arith, omega arith, inl refl)
+    go true true false d = (omega arith, omega arith, inl refl)
+    go true true true false = (omega arith, omega arith, inl refl)
+    go true true true true = tt
 
-along-names : (P : Plan) (ks : List ℕ) (m : Marks) → Names 5 7 ks (verdict (fault P) (turned P) ks m)
+along-names : (P : Plan) (ks : List ℕ) (m : Marks) → Names 5 8 ks (verdict (fault P) (turned P) ks m)
 along-names P [] m = tt
 along-names P (k ∷ ks) m = go (fault P k m) (verdict (fault P) (turned P) ks (turned P k m)) (fault-names P k ks m) (along-names P ks (turned P k m))
   where
-    go : (o rest : Option Verdict) → Names 5 7 (k ∷ ks) o → Names 5 7 ks rest → Names 5 7 (k ∷ ks) (first o rest)
+    go : (o rest : Option Verdict) → Names 5 8 (k ∷ ks) o → Names 5 8 ks rest → Names 5 8 (k ∷ ks) (first o rest)
     go none none h t = tt
     go none (some v) h t = (t .0, t .1, inr (t .2))
     go (some v) rest h t = h
@@ -81,7 +82,7 @@ module _ (g : Given) (order : List ℕ) where
 
   -- "0 | done; stage 32"; "A refusal returns its number, the stage (32 for 1 to 4) .."
   abbrev Answered : Answer → Type 0
-  Answered a = ((a .number ≡ 0) × (a .stage ≡ 32)) ⊎ ((1 ≤ a .number) × (a .number ≤ 4) × (a .stage ≡ 32)) ⊎ ((5 ≤ a .number) × (a .number ≤ 7) × Among (a .stage) order)
+  Answered a = ((a .number ≡ 0) × (a .stage ≡ 32)) ⊎ ((1 ≤ a .number) × (a .number ≤ 4) × (a .stage ≡ 32)) ⊎ ((5 ≤ a .number) × (a .number ≤ 8) × Among (a .stage) order)
 
   pub answered : Answered (run .ran .answer)
   unfolding runOf rendered judged ended afterBy
@@ -89,7 +90,7 @@ module _ (g : Given) (order : List ℕ) where
       go (named 32 (entry plan (g .zeros) order world)) (verdict (fault plan) (turned plan) order (marksOf (world .banks)))
       (entry-names plan (g .zeros) order world) (along-names plan order (marksOf (world .banks)))
     where
-      go : (o along : Option Verdict) → Names 1 4 (32 ∷ []) o → Names 5 7 order along → Answered (afterBy plan world (ended plan order world (first o along)) .ran .answer)
+      go : (o along : Option Verdict) → Names 1 4 (32 ∷ []) o → Names 5 8 order along → Answered (afterBy plan world (ended plan order world (first o along)) .ran .answer)
       go none none h k = inl (refl, refl)
       go none (some v) h k = inr (inr k)
       go (some v) along (low, high, inl e) k = inr (inl (low, high, e))

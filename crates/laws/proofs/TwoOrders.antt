@@ -25,8 +25,7 @@ use Rattle.answers.specs.declared.activity.StageActivity.{StageActivity}
 use Rattle.answers.specs.declared.activity.StageActivity.the-variants.{Exhausted}
 use Rattle.answers.proofs.Tests.{and-left, and-right, or-cases}
 use Rattle.answers.proofs.Greatest.{greater-comm, greater-assoc}
-use Rattle.magnetron.specs.Buffers.{marksOf, activityOf}
-use Rattle.magnetron.specs.declared.buffer.BufferIndex.{BufferIndex}
+use Rattle.magnetron.specs.Buffers.{marksOf, activityOf, louderBy}
 use Rattle.magnetron.specs.declared.buffer.Marks.{Marks}
 use Rattle.magnetron.proofs.Writes.{folds-swap}
 use Rattle.magnetron.proofs.Told.{fits}
@@ -139,7 +138,7 @@ module _ (P : Plan) (xs ys : List ℕ) (h : SameOrder (tied P) xs ys) where
     where
       swap : (a b : ℕ) (s : StageActivity) → louder P a (louder P b s) ≡ louder P b (louder P a s)
       swap a b s =
-          folds-swap (λ (c : BufferIndex) (t : StageActivity). greaterOf t (activityOf c)) (outsAt P a) (outsAt P b)
+          folds-swap louderBy (outsAt P a) (outsAt P b)
           (λ c d m n t. swap-in greaterOf greater-assoc greater-comm t (activityOf d) (activityOf c)) s
 
   module _ (zeros : List Float) (w : World) (e : passed (judged P zeros xs w) ≡ true) where

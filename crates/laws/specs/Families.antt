@@ -4,7 +4,7 @@ use mathlib.Core.Path.{_≡_}
 use Rattle.microwave.specs.declared.filter.FilterType.{FilterType}
 use Rattle.microwave.specs.declared.filter.FilterType.the-variants as filter
 use Rattle.stages.specs.declared.kind.Kind.{Kind}
-use Rattle.stages.specs.declared.kind.Kind.the-variants.{Pass, Pow3, Clip, Filter, Oscillator, ModOscillator, Waveguide, RingModulator}
+use Rattle.stages.specs.declared.kind.Kind.the-variants.{Pass, Pow3, Clip, Filter, Oscillator, ModOscillator, Waveguide, RingModulator, Pan}
 use Rattle.stages.specs.declared.state.State.{State}
 
 pub data Family : Type 0 where
@@ -32,6 +32,7 @@ familyOf (Oscillator o) = phases
 familyOf (ModOscillator a o m) = phases
 familyOf (Waveguide a g) = string
 familyOf (RingModulator a b) = no-memory
+familyOf (Pan a gain right) = no-memory
 
 -- two state records are alike in every part but that family's
 abbrev pub AlikeBut : Family → State → State → Type 0
