@@ -21,10 +21,28 @@ pass =
       «first_input» = 2;
       «second_input» = 0;
       output = 5;
+      «second_output» = 0;
       «out_level» = record { mark = 1; slot = 0; bits = 0x7ff0_0000_0000_0001 };
       first = noParameter;
       second = noParameter;
       third = noParameter;
+    }
+
+abbrev pan : FlatStage
+pan =
+    record {
+      kind = 14;
+      choice = 0;
+      modulation = 0;
+      «buffer_size» = 0;
+      «first_input» = 2;
+      «second_input» = 0;
+      output = 1;
+      «second_output» = 3;
+      «out_level» = noParameter;
+      first = record { mark = 3; slot = 0; bits = 0 };
+      second = record { mark = 2; slot = 7; bits = 0 };
+      third = record { mark = 1; slot = 0; bits = 0x3ff0_0000_0000_0000 };
     }
 
 -- the bytes end where a number would begin, or inside one
@@ -58,7 +76,7 @@ pub largest-count : readOf (0x01 ∷ 0xff ∷ 0xff ∷ 0xff ∷ 0xff ∷ 0x0f �
 unfolding followed _>>=_ judged byteOf groups number file answered
 largest-count = refl
 
-pub unknown-kind : readOf (0x01 ∷ 0x01 ∷ 0x0e ∷ []) ≡ refusal 22 2
+pub unknown-kind : readOf (0x01 ∷ 0x01 ∷ 0x0f ∷ []) ≡ refusal 22 2
 unfolding followed _>>=_ judged byteOf groups number stage stages file answered
 unknown-kind = refl
 
@@ -85,3 +103,9 @@ pub nan-kept : readOf (0x01 ∷ 0x01 ∷ 0x00 ∷ 0x02 ∷ 0x05 ∷ 0x01 ∷ 0x0
     ≡ record { number = 0; offset = 0; patch = patchFrom (pass ∷ []) }
 unfolding followed _>>=_ judged byteOf groups number choice eight parameter choices wires parameters parts stage stages end file answered
 nan-kept = refl
+
+-- a Pan from internal 1 to external 0 and 1: left level, right level, left gain, right gain. That just one level is absent is for the run to judge
+pub placed : readOf (0x01 ∷ 0x01 ∷ 0x0e ∷ 0x02 ∷ 0x01 ∷ 0x03 ∷ 0x00 ∷ 0x03 ∷ 0x02 ∷ 0x07 ∷ 0x01 ∷ 0x00 ∷ 0x00 ∷ 0x00 ∷ 0x00 ∷ 0x00 ∷ 0x00 ∷ 0xf0 ∷ 0x3f ∷ [])
+    ≡ record { number = 0; offset = 0; patch = patchFrom (pan ∷ []) }
+unfolding followed _>>=_ judged byteOf groups number choice eight parameter choices wires parameters parts stage stages end file answered
+placed = refl

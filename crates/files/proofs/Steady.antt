@@ -173,6 +173,7 @@ module _ (form : Form) where
       steady-then 0 _ _ (steady-number-if (ltb 0 (form .inputs))) λ first.
       steady-then 0 _ _ (steady-number-if (ltb 1 (form .inputs))) λ second.
       steady-then 0 _ _ steady-number λ output.
+      steady-then 0 _ _ (steady-number-if (ltb 1 (form .outputs))) λ right.
       steady-saying 0 _
 
   steady-parameters : Steady 0 (parameters form)

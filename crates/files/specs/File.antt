@@ -70,15 +70,17 @@ choices form = do
   size ← ifThere (ltb 0 (form .sizes)) 0 number
   saying (record { choice = chosen; modulation = modulation; «buffer_size» = size })
 
--- "inputs, output": "A buffer is twice its index, plus one if external."
+-- "inputs, output": "A buffer is twice its index, plus one if external." Of Pan's two outputs the left one comes first
 unfoldable pub wires : Form → Reader Wires
 wires form = do
   first ← ifThere (ltb 0 (form .inputs)) 0 number
   second ← ifThere (ltb 1 (form .inputs)) 0 number
   output ← number
-  saying (record { «first_input» = first; «second_input» = second; output = output })
+  right ← ifThere (ltb 1 (form .outputs)) 0 number
+  saying (record { «first_input» = first; «second_input» = second; output = output; «second_output» = right })
 
--- "parameters with out_level first and the others as the Rust's record lists them"
+-- "parameters with out_level first and the others as the Rust's record lists them"; of Pan, "In a patch file it is the kind after
+-- RingModulator, with the levels pair first": out_level is then the left one, and the right one follows it
 unfoldable pub parameters : Form → Reader Parameters
 parameters form = do
   level ← parameter
@@ -97,6 +99,7 @@ stageFrom kind c w p =
       «first_input» = w .«first_input»;
       «second_input» = w .«second_input»;
       output = w .output;
+      «second_output» = w .«second_output»;
       «out_level» = p .«out_level»;
       first = p .first;
       second = p .second;

@@ -20,11 +20,12 @@ pub(crate) struct Choices {
     pub buffer_size: usize,
 }
 
-// The buffers that are read and written.
+// The buffers that are read and written. What the kind does not have is 0.
 pub(crate) struct Wires {
     pub first_input: usize,
     pub second_input: usize,
     pub output: usize,
+    pub second_output: usize,
 }
 
 // The level, and up to three parameters more.
@@ -83,13 +84,16 @@ fn read_wires(start: Reading, bytes: &[u8], form: Form) -> WiresRead
     let second = between.number_if(bytes, form.inputs > 1);
     let heard = second.reading;
     let output = heard.number(bytes);
-    let reading = output.reading;
+    let written = output.reading;
+    let right = written.number_if(bytes, form.outputs > 1);
+    let reading = right.reading;
     WiresRead {
         reading,
         wires: Wires {
             first_input: first.value,
             second_input: second.value,
             output: output.value,
+            second_output: right.value,
         },
     }
 }
@@ -183,6 +187,7 @@ fn stage_from(kind: usize, choices: Choices, wires: Wires, parameters: Parameter
         first_input: wires.first_input,
         second_input: wires.second_input,
         output: wires.output,
+        second_output: wires.second_output,
         out_level,
         first,
         second,

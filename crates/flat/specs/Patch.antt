@@ -44,6 +44,7 @@ noFlat =
       «first_input» = 0;
       «second_input» = 0;
       output = 0;
+      «second_output» = 0;
       «out_level» = noParameter;
       first = noParameter;
       second = noParameter;

@@ -21,6 +21,7 @@ use Rattle.microwave.specs.declared.waveguide.Reflectance.the-variants.{Positiv
 use Rattle.microwave.specs.declared.waveguide.WaveguideSpec.{WaveguideSpec}
 use Rattle.stages.specs.declared.kind.Kind.{Kind}
 use Rattle.stages.specs.declared.kind.Kind.the-variants as kind
+use Rattle.stages.specs.declared.kind.Side.{Side}
 use Rattle.stages.specs.declared.stage.Stage.{Stage}
 use Rattle.flat.specs.declared.form.Form.{Form}
 use Rattle.flat.specs.declared.form.Formed.{Formed}
@@ -79,7 +80,14 @@ waveguideOf f =
 abbrev pub filtered : FlatStage → Kind
 filtered f = kind.Filter (bufferOf (f .«first_input»)) (filterOf (f .kind) (parameterOf (f .first)) (parameterOf (f .second)))
 
--- the kinds by number; after them, RingModulator
+-- Pan's right side: "a left and a right gain, an optional pair of out levels"; the stage's own output and out_level are the left ones
+abbrev pub rightOf : FlatStage → Side
+rightOf f = record { output = bufferOf (f .«second_output»); «out_level» = parameterOf (f .first); gain = parameterOf (f .third) }
+
+abbrev pub panOf : FlatStage → Kind
+panOf f = kind.Pan (bufferOf (f .«first_input»)) (parameterOf (f .second)) (rightOf f)
+
+-- the kinds by number; after them, Pan
 unfoldable pub kinds : FlatStage → List Kind
 kinds f =
     kind.Pass (bufferOf (f .«first_input»))
@@ -95,10 +103,11 @@ kinds f =
     ∷ kind.Oscillator (oscillatorOf f)
     ∷ kind.ModOscillator (bufferOf (f .«first_input»)) (oscillatorOf f) (modulationOf (f .modulation))
     ∷ kind.Waveguide (bufferOf (f .«first_input»)) (waveguideOf f)
+    ∷ kind.RingModulator (bufferOf (f .«first_input»)) (bufferOf (f .«second_input»))
     ∷ []
 
 unfoldable pub kindOf : FlatStage → Kind
-kindOf f = getD (kinds f) (f .kind) (kind.RingModulator (bufferOf (f .«first_input»)) (bufferOf (f .«second_input»)))
+kindOf f = getD (kinds f) (f .kind) (panOf f)
 
 -- ---- which numbers are known
 

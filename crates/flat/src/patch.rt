@@ -62,6 +62,7 @@ pub fn no_flat() -> FlatStage
         first_input: 0,
         second_input: 0,
         output: 0,
+        second_output: 0,
         out_level: absent,
         first: absent,
         second: absent,

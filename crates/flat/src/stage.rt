@@ -12,10 +12,11 @@ use microwave::parameter::Parameter;
 use microwave::waveguide::Reflectance;
 use microwave::waveguide::WaveguideSpec;
 use stages::kind::Kind;
+use stages::kind::Side;
 use stages::stage::Stage;
 use words::number::from_word;
 ghost use mathlib.Core.Path.{_≡_};
-ghost use Rattle.flat.specs.Stage.{parameterOf, waveformOf, modulationOf, reflectanceOf, filterOf, oscillatorOf, waveguideOf, kindOf, chosenOf, markedOf, knownOf, namedOf};
+ghost use Rattle.flat.specs.Stage.{parameterOf, waveformOf, modulationOf, reflectanceOf, filterOf, oscillatorOf, waveguideOf, panOf, kindOf, chosenOf, markedOf, knownOf, namedOf};
 
 // A parameter, by its mark: 0 absent, 1 the number of these bits, 2 the slot, 3 the window's seconds. Bits, since those of two numbers can be
 // compared, and a float has one NaN for many bits.
@@ -26,7 +27,8 @@ pub struct FlatParameter {
     pub bits: u64,
 }
 
-// A stage, its buffers by their numbers. What the kind does not have is not looked at.
+// A stage, its buffers by their numbers. What the kind does not have is not looked at. Of Pan, `output` and `out_level` are the left ones,
+// `second_output` the right one, and the parameters are the right level, the left gain and the right gain.
 #[repr(C)]
 pub struct FlatStage {
     pub kind: usize,
@@ -36,6 +38,7 @@ pub struct FlatStage {
     pub first_input: usize,
     pub second_input: usize,
     pub output: usize,
+    pub second_output: usize,
     pub out_level: FlatParameter,
     pub first: FlatParameter,
     pub second: FlatParameter,
@@ -151,6 +154,24 @@ fn waveguide_of(flat: FlatStage) -> WaveguideSpec
     }
 }
 
+fn pan_of(flat: FlatStage) -> Kind
+    ensures { λ r. ⌜ r ≡ panOf flat ⌝ }
+{
+    let right_level = flat.first;
+    let left_gain = flat.second;
+    let right_gain = flat.third;
+    let right = Side {
+        output: buffer_of(flat.second_output),
+        out_level: parameter_of(right_level),
+        gain: parameter_of(right_gain),
+    };
+    Kind::Pan {
+        input: buffer_of(flat.first_input),
+        left_gain: parameter_of(left_gain),
+        right,
+    }
+}
+
 // The kind with its parts. What several arms share is worked out before them, and the other arms leave it.
 fn kind_of(flat: FlatStage) -> Kind
     ensures { λ r. ⌜ r ≡ kindOf flat ⌝ }
@@ -183,10 +204,11 @@ fn kind_of(flat: FlatStage) -> Kind
             input,
             waveguide: waveguide_of(flat),
         },
-        _ => Kind::RingModulator {
+        13 => Kind::RingModulator {
             first: input,
             second: buffer_of(flat.second_input),
         },
+        _ => pan_of(flat),
     }
 }
 

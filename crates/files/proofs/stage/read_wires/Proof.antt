@@ -14,10 +14,18 @@ number-if-requires-2 c κs = search needs
 number-requires : tie.Need-number-requires
 number-requires c κs = search needs
 
+number-if-requires-3 : tie.Need-number-if-requires-3
+number-if-requires-3 c κs = search needs
+
 returns : tie.Need-returns
 unfolding wires
-returns c = then _ _ _ _ _ _ _ _ (c .before .before .before .before .before .before .number-if .ensures) (then _ _ _ _ _ _ _ _ (c .before .before .before .number-if2 .ensures) (then _ _ _ _ _ _ _ _ (c .before .number .ensures) (last _ _ _)))
+returns c =
+    then _ _ _ _ _ _ _ _ (c .before .before .before .before .before .before .before .before .before .number-if .ensures)
+    (then _ _ _ _ _ _ _ _ (c .before .before .before .before .before .before .number-if2 .ensures)
+    (then _ _ _ _ _ _ _ _ (c .before .before .before .before .number .ensures)
+    (then _ _ _ _ _ _ _ _ (c .before .number-if3 .ensures) (last _ _ _))))
 
 pub read-wires-spec : {M : Type 1} → statement M
 read-wires-spec =
-    tie.close (tie.spec number-if-requires number-if-requires-2 number-requires returns)
+    tie.close
+    (tie.spec number-if-requires number-if-requires-2 number-requires number-if-requires-3 returns)

@@ -22,6 +22,9 @@ array-read-t18 c = search needs
 array-read-t22 : tie.Need-array-read-t22
 array-read-t22 c = search needs
 
+array-read-t26 : tie.Need-array-read-t26
+array-read-t26 c = search needs
+
 returns-2 : tie.Need-returns-2
 returns-2 c = simp (lt-ltb _ _ ((c .if1 .left)))
 
@@ -35,4 +38,5 @@ form-of-spec =
     array-read-t14
     array-read-t18
     array-read-t22
+    array-read-t26
     returns-2)

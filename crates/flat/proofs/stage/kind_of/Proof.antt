@@ -32,6 +32,9 @@ waveguide-of-requires c κs = search needs
 buffer-of-requires-2 : tie.Need-buffer-of-requires-2
 buffer-of-requires-2 c κs = search needs
 
+pan-of-requires : tie.Need-pan-of-requires
+pan-of-requires c κs = search needs
+
 returns : tie.Need-returns
 unfolding kindOf kinds
 returns c = rw ((c .before .before .before .before .buffer-of .ensures), (c .match .keys1))
@@ -86,7 +89,11 @@ returns-13 c = rw ((c .before .before .before .before .before .buffer-of .ensure
 
 returns-14 : tie.Need-returns-14
 unfolding kindOf kinds
-returns-14 c = rw ((c .before .before .before .before .before .buffer-of .ensures), (c .buffer-of2 .ensures), List·getD-eq-default (kinds ((c .before .before .before .before .before .before .before .before .before .args .flat))) _ (past 13 _ ((c .before .match .rest))))
+returns-14 c = rw ((c .before .before .before .before .before .buffer-of .ensures), (c .buffer-of2 .ensures), (c .before .match .keys14))
+
+returns-15 : tie.Need-returns-15
+unfolding kindOf kinds
+returns-15 c = rw ((c .pan-of .ensures), List·getD-eq-default (kinds ((c .before .before .before .before .before .before .before .before .before .args .flat))) _ (past 14 _ ((c .before .match .rest))))
 
 pub kind-of-spec : {M : Type 1} → statement M
 kind-of-spec =
@@ -100,6 +107,7 @@ kind-of-spec =
     modulation-of-requires
     waveguide-of-requires
     buffer-of-requires-2
+    pan-of-requires
     returns
     returns-2
     returns-3
@@ -113,4 +121,5 @@ kind-of-spec =
     returns-11
     returns-12
     returns-13
-    returns-14)
+    returns-14
+    returns-15)
