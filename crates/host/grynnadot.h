@@ -3,7 +3,7 @@
  * Records go by value and come back by value: what comes back is what to pass next time. A ring's cursor alone is changed where it stands.
  * Samples, zeros, rings, values, the order and a file's bytes are lent, each as a pointer and a count of elements. A pointer is used during
  * the call and never after it; nothing is kept between calls and nothing is allocated, so that engines with slices of their own may run at
- * the same time. The records are large (a patch has 4,872 bytes, the states 2,816) and stand on the stack.
+ * the same time. The records are large (a patch has 5,128 bytes, the states 2,816) and stand on the stack.
  *
  * Every input gets an answer, and what each function answers is proved for any input; see crates/host/specs. A refusal says why by its
  * number and changes nothing: the records come back as they were passed, and no lent sample is touched. One thing is left to the caller: to
@@ -21,7 +21,7 @@
 
 /* ---- answers */
 
-/* 0, done; or why it was refused, the first of these that holds (22 before all others, then 1 to 4; then 5, 6, 7 of one stage after another):
+/* 0, done; or why it was refused, the first of these that holds (22 before all others, then 1 to 4; then 5, 8, 6, 7, stage by stage):
  *      1  a count of buffers or stages or a capacity is over its bound, a pool's samples are not count * capacity, or the zeros are not
  *         exactly as many +0.0 as the internal capacity
  *      2  the window is longer than the internal capacity, or than the external one where there are external buffers
@@ -29,15 +29,16 @@
  *      4  a buffer_size is over 32,767, the rings do not fit into their samples, or a position is not below the length of its ring
  *      5  there is no such buffer
  *      6  a parameter's slot is past the lent values, or a parameter is absent that may not be
- *      7  the output is also an input, is not stale when it is written, and the window is not empty
+ *      7  an output is also an input, is not stale when it is written, and the window is not empty
+ *      8  both outputs are the same buffer, whether or not the window is empty
  *     22  a stage's kind, choice, modulation or mark is unknown
- * The stage is the number of the stage at fault for 5, 6, 7 and 22 of a run, and 32 in every other case. */
+ * The stage is the number of the stage at fault for 5 to 8 and 22 of a run, and 32 in every other case. */
 typedef struct {
     size_t number;
     size_t stage;
 } grynnadot_verdict;
 
-/* With the activity: of a write that of its output's pool, 1 internal or 2 external; of a run the greatest of its stages'. It is 0,
+/* With the activity: of a write that of its output's pool, 1 internal or 2 external; of a run the greatest of all its outputs'. It is 0,
  * exhausted, where the order is empty or the call was refused. 3, observer, ranks above these and is never answered. */
 typedef struct {
     size_t number;
@@ -110,8 +111,9 @@ grynnadot_wrote grynnadot_read_2_write_1(grynnadot_pools pools, double *internal
 
 enum { GRYNNADOT_ABSENT, GRYNNADOT_NUMBER, GRYNNADOT_SLOT, GRYNNADOT_WINDOW_SECONDS };
 
-/* Nothing, the number, the value in that slot of the lent values, or the window's seconds, by its mark. Only out_level and an oscillator's
- * phase may be absent: they are then 1.0 and 0.0. The engine reads the number's eight bytes as they are: any NaN is NaN. */
+/* Nothing, the number, the value in that slot of the lent values, or the window's seconds, by its mark. Only levels and an oscillator's
+ * phase may be absent: they are then 1.0 and 0.0. Pan's two levels are absent together or not at all. The engine reads the number's eight
+ * bytes as they are: any NaN is NaN. */
 typedef struct {
     size_t mark;
     size_t slot;
@@ -119,7 +121,9 @@ typedef struct {
 } grynnadot_parameter;
 
 /* The kinds, each with what its parameters first, second and third are. Each has one input, but for the plain oscillator, which has none,
- * and the ring modulator, which has two. */
+ * and the ring modulator, which has two. Each has one output, whose level is out_level, but for Pan, which has two: left, in `output` with
+ * out_level, and right, in `second_output`. Pan writes to either side its input times the gain, and that times the level; what it hears is
+ * settled before it writes. */
 enum {
     GRYNNADOT_PASS,
     GRYNNADOT_POW3,
@@ -134,13 +138,14 @@ enum {
     GRYNNADOT_OSCILLATOR,           /* frequency, phase; choice: the waveform */
     GRYNNADOT_MODULATED_OSCILLATOR, /* frequency, phase; choice: the waveform; modulation: 0 by phase, 1 by frequency */
     GRYNNADOT_WAVEGUIDE,            /* frequency, cutoff, feedback; choice: 0 positive, 1 negative reflectance; buffer_size to 32,767 */
-    GRYNNADOT_RING_MODULATOR
+    GRYNNADOT_RING_MODULATOR,
+    GRYNNADOT_PAN                   /* right level, left gain, right gain */
 };
 
 /* The waveforms. */
 enum { GRYNNADOT_SIN, GRYNNADOT_SIN3, GRYNNADOT_TRIANGLE, GRYNNADOT_SQUARE, GRYNNADOT_SAWTOOTH };
 
-/* Inputs and output are buffers by their numbers. What the kind does not have is not looked at. */
+/* Inputs and outputs are buffers by their numbers. What the kind does not have is not looked at. */
 typedef struct {
     size_t kind;
     size_t choice;
@@ -149,6 +154,7 @@ typedef struct {
     size_t first_input;
     size_t second_input;
     size_t output;
+    size_t second_output;
     grynnadot_parameter out_level;
     grynnadot_parameter first;
     grynnadot_parameter second;
@@ -218,7 +224,7 @@ grynnadot_states grynnadot_new_states(void);
 /* A run of n samples, each `width` seconds wide, of the stages that `order` names, in that order: numbers below the patch's count, none of
  * them twice. `rings` has a ring of buffer_size + 1 samples for each waveguide of the patch, ordered or not, end to end by stage number;
  * more samples may follow. A ring keeps its string's sound from window to window: zeros are silence. `values` are what slots stand for. The
- * pools' records and the states that come back are those for the next window. Refused with 22 or 1 to 7, before the first sample. */
+ * pools' records and the states that come back are those for the next window. Refused with 22 or 1 to 8, before the first sample. */
 grynnadot_ran grynnadot_run(grynnadot_patch patch, const uint8_t *order, size_t order_count, grynnadot_pools pools,
                             grynnadot_states states, size_t n, double width, double *internal, size_t internal_count, double *external,
                             size_t external_count, const double *zeros, size_t zeros_count, double *rings, size_t rings_count,
