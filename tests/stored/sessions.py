@@ -2,12 +2,15 @@
 import itertools, random
 from words import INFINITY, NAN, SIGN, bits, number
 
-PLAIN, CLIP, FILTERS, OSCILLATOR, MODULATED, WAVEGUIDE, RING_MODULATOR = [0, 1], 2, range(3, 10), 10, 11, 12, 13
+PLAIN, CLIP, FILTERS, OSCILLATOR, MODULATED, WAVEGUIDE, RING_MODULATOR, PAN = [0, 1], 2, range(3, 10), 10, 11, 12, 13, 14
 WAVEFORMS, MODULATIONS, REFLECTANCES = range(5), range(2), range(2)
 SECONDS, SLOT, ABSENT = [3], lambda k: [2, k], [0]
 ONE_POLES = (3, 5)
-# external 0 and 1 are inputs, internal 0 is the output
-INPUT, OTHER, OUTPUT = 1, 3, 0
+# external 0 and 1 are inputs, internal 0 is the output; internal 1 isn't there
+INPUT, OTHER, OUTPUT, NOWHERE = 1, 3, 0, 2
+# a Pan writes external 1 too, left or right, and adds there to what is set
+PANS = [[PAN, INPUT, OUTPUT, OTHER], [PAN, INPUT, OTHER, OUTPUT]]
+PAN_PARAMETERS = 3
 BUFFER_SIZE = 40
 HOSTILE = {
     'zero and negative': [0, SIGN, bits(-1.0), bits(-440.0), bits(-1e-20)],
@@ -18,7 +21,7 @@ WIDTH = bits(1 / 48000)
 
 
 def kinds():
-    """the words of a stage up to its parameters, how many of these follow out_level, and whether it has a ring"""
+    """the words of a stage up to its parameters, how many of these follow out_level, and whether it has a ring; of all kinds but Pan"""
     for kind in PLAIN:
         yield [kind, INPUT, OUTPUT], 0, False
     yield [CLIP, INPUT, OUTPUT], 1, False
@@ -34,9 +37,11 @@ def kinds():
 
 
 def ordinary(kind, k):
-    """a value that suits parameter k of a kind: a level, then frequencies, a quality, a feedback, a limit or a phase"""
+    """a value that suits parameter k of a kind: a level, then frequencies, a quality, a feedback, a limit, a phase or gains"""
     if k == 0:
         return bits(random.uniform(0.1, 1.0))
+    if kind == PAN:
+        return bits(random.uniform(-1.0, 1.0))
     if kind == CLIP:
         return bits(random.uniform(-0.7, 0.7))
     if kind in FILTERS and k == 2:
@@ -56,31 +61,56 @@ def values_of(kind, count, hostile):
     return values
 
 
-def window(n, width, values, prepared, hostile):
-    """prepare and set both inputs, then run the one stage"""
+def window(n, width, values, prepared, hostile, stage=0):
+    """prepare and set both inputs, then run one stage"""
     signal = lambda: [number() if hostile and random.random() < 0.1 else bits(random.uniform(-1, 1)) for _ in range(n)]
-    return [2 | prepared, n, width, 2, *signal(), 2, *signal(), *values, 1, 0]
+    return [2 | prepared, n, width, 2, *signal(), 2, *signal(), *values, 1, stage]
+
+
+def lent(stages, capacity, values, ring):
+    """one internal and two external buffers, silent and not stale, and new states"""
+    head = [1, 0, 1, capacity, 2, capacity, capacity, 2 * capacity, capacity, values, ring, len(stages)]
+    contents = [0] * (capacity + 2 * capacity + capacity + values + ring)
+    return head + sum(stages, []) + contents + [0] * 32 + [0] * (32 * 11)
 
 
 def session(stage, count, has_ring, windows, hostile):
-    """one internal and two external buffers; every parameter is a slot but, now and then, out_level"""
-    capacity = max(windows)
-    level = ABSENT if random.random() < 0.3 else SLOT(0)
-    parameters = level + sum((SLOT(k + 1) for k in range(count)), [])
+    """every parameter is a slot but, now and then, out_level, or both levels of a Pan"""
+    absent = (2 if stage[0] == PAN else 1) if random.random() < 0.3 else 0
+    parameters = sum((ABSENT if k < absent else SLOT(k) for k in range(count + 1)), [])
     ring = BUFFER_SIZE + 1 if has_ring else 0
-    head = [1, 0, 1, capacity, 2, capacity, capacity, 2 * capacity, capacity, count + 1, ring, 1]
-    contents = [0] * (capacity + 2 * capacity + capacity + count + 1 + ring)
     body = []
     for at, n in enumerate(windows):
         width = random.choice([WIDTH, 0, SIGN, bits(-1 / 48000), NAN]) if hostile and at % 2 else WIDTH
         # not prepared, a window adds to what the one before has left
         body += window(n, width, values_of(stage[0], count, hostile), 0 if at == 2 else 1, hostile)
-    return head + stage + parameters + contents + [0] * 32 + [0] * (32 * 11) + [len(windows)] + body
+    return lent([stage + parameters], max(windows), count + 1, ring) + [len(windows)] + body
+
+
+def sessions(stage, count, has_ring):
+    yield session(stage, count, has_ring, [64, 0, 63, 1, 2, 64], None)
+    yield session(stage, count, has_ring, [257, 257], None)
+    for hostile in HOSTILE:
+        yield session(stage, count, has_ring, [2, 33, 1, 0, 33], hostile)
+
+
+def wired(source, levels):
+    """Pans from one buffer into any two of four, one of which isn't there; each runs by itself, with samples and without"""
+    parameters = levels + SLOT(2) + SLOT(3)
+    pairs = itertools.product((OUTPUT, INPUT, OTHER, NOWHERE), repeat=2)
+    stages = [[PAN, source, *outputs, *parameters] for outputs in pairs]
+    windows = [window(n, WIDTH, values_of(PAN, PAN_PARAMETERS, None), 1, None, k) for k in range(len(stages)) for n in (2, 0)]
+    return lent(stages, 2, PAN_PARAMETERS + 1, 0) + [len(windows)] + sum(windows, [])
 
 
 def cases():
-    for stage, count, has_ring in kinds():
-        yield session(stage, count, has_ring, [64, 0, 63, 1, 2, 64], None)
-        yield session(stage, count, has_ring, [257, 257], None)
-        for hostile in HOSTILE:
-            yield session(stage, count, has_ring, [2, 33, 1, 0, 33], hostile)
+    for kind in kinds():
+        yield from sessions(*kind)
+
+
+def pans():
+    """the same of Pan; then where it is refused with 5, 8, 6 or 7 and where it is not, for an input that is stale and one that isn't"""
+    for stage in PANS:
+        yield from sessions(stage, PAN_PARAMETERS, False)
+    for source, left, right in itertools.product((INPUT, OUTPUT), (ABSENT, SLOT(0)), (ABSENT, SLOT(1))):
+        yield wired(source, left + right)

@@ -48,11 +48,17 @@ fn write_choices(start: Place, stage: FlatStage, form: Form, output: &mut Buffer
     write_if(modulated, form.sizes > 0, stage.buffer_size as u64, output)
 }
 
-// The inputs, as many as the kind has, and the output.
+// The inputs and the outputs, as many as the kind has.
 fn write_buffers(start: Place, stage: FlatStage, form: Form, output: &mut Buffer) -> Place {
     let first = write_if(start, form.inputs > 0, stage.first_input as u64, output);
     let second = write_if(first, form.inputs > 1, stage.second_input as u64, output);
-    second.write(output, stage.output as u64)
+    let written = second.write(output, stage.output as u64);
+    write_if(
+        written,
+        form.outputs > 1,
+        stage.second_output as u64,
+        output,
+    )
 }
 
 // out_level, and the parameters, as many as the kind has.

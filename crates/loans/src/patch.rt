@@ -108,7 +108,7 @@ fn read_choices(start: Place, kind: usize, form: Form, input: &mut Buffer) -> Fl
     FlatRead { place, stage }
 }
 
-// The inputs, as many as the kind has, and the output.
+// The inputs and the outputs, as many as the kind has.
 fn read_buffers(start: FlatRead, form: Form, input: &mut Buffer) -> FlatRead {
     let mut stage = start.stage;
     let before = start.place;
@@ -117,10 +117,13 @@ fn read_buffers(start: FlatRead, form: Form, input: &mut Buffer) -> FlatRead {
     let second = between.next_if(input, form.inputs > 1);
     let after = second.place;
     let output = after.next(input);
-    let place = output.place;
+    let written = output.place;
+    let right = written.next_if(input, form.outputs > 1);
+    let place = right.place;
     stage.first_input = first.word as usize;
     stage.second_input = second.word as usize;
     stage.output = output.word as usize;
+    stage.second_output = right.word as usize;
     FlatRead { place, stage }
 }
 
