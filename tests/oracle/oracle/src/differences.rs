@@ -1,5 +1,5 @@
-//! Where document 01 parts from the Rust: the smallest input of each difference, what 01 says to it, what the Rust does and what
-//! the program does. docs/DIFFERENCES.md has the same in words.
+//! Where documents 01 and 02 part from the Rust: the smallest input of each difference, what they say to it, what the Rust does
+//! and what the program does. docs/DIFFERENCES.md has the same in words.
 
 use std::error::Error;
 use std::f64::consts::TAU;
@@ -8,6 +8,7 @@ use std::hint::black_box;
 use microwave::magnetron::oscillator::OscillatorType;
 
 use crate::answer;
+use crate::answer::Answer;
 use crate::case::Case;
 use crate::panics;
 use crate::program::Program;
@@ -25,11 +26,12 @@ use crate::small::string;
 use crate::small::window;
 use crate::words::words;
 
-/// A session of one window that 01 refuses, and whether the Rust panics there. Where it does not, it goes on.
+/// A session of one window that 01 or 02 refuses, and whether the Rust panics there. Where it does not, it goes on. What it has
+/// done to its buffers may show in a second window, which is accepted.
 struct Difference {
     name: &'static str,
     session: Session,
-    panics: bool,
+    panics: Vec<bool>,
 }
 
 /// Whether the Rust and the program do what docs/DIFFERENCES.md says. The inputs are shown where they are asked for.
@@ -47,21 +49,26 @@ pub fn run(program: &Program, inputs: bool) -> Result<bool, Box<dyn Error>> {
 }
 
 fn listed() -> Vec<Difference> {
-    let square = || stage(&Kind::Oscillator(OscillatorType::Square), &[], internal(0));
-    let pass = |input, output| stage(&Kind::Pass, &[internal(input)], internal(output));
-    let string = stage(&string(32_768), &[internal(0)], internal(0));
+    let square = || stage(&Kind::Oscillator(OscillatorType::Square), &[], &[internal(0)]);
+    let pass = |input, output| stage(&Kind::Pass, &[internal(input)], &[internal(output)]);
+    let pan = stage(&Kind::Pan, &[internal(0)], &[internal(0); 2]);
+    let string = stage(&string(32_768), &[internal(0)], &[internal(0)]);
     let one = |stages: Vec<Stage>| lent(good_pools([1, 0], [1, 0]), stages);
     let two = lent(good_pools([1, 1], [2, 1]), vec![square()]);
     let long = lent(good_pools([1, 0], [4_097, 0]), vec![square()]);
     let difference = |name, panics, lent: Session, n, order: &[u64]| Difference {
         name,
         session: Session { windows: vec![window(false, n, order)], ..lent.with_new_states() },
-        panics,
+        panics: vec![panics],
     };
+    let mut lost = difference("an empty window with equal outputs", false, one(vec![pan, square()]), 0, &[0]);
+    lost.session.windows.push(window(false, 1, &[1]));
+    lost.panics.push(true);
     vec![
         difference("a buffer that isn't there", true, one(vec![pass(1, 0)]), 1, &[0]),
         difference("a later stage's buffer that isn't there", true, one(vec![square(), pass(0, 1)]), 1, &[0, 1]),
         difference("an output that is an input, not stale", true, one(vec![pass(0, 0)]), 1, &[0]),
+        lost,
         difference("a window longer than the capacity", true, one(Vec::new()), 2, &[]),
         difference("a short external pool that nothing reads", false, two, 2, &[0]),
         difference("a capacity over its bound", false, long, 4_097, &[0]),
@@ -74,13 +81,18 @@ impl Difference {
         let Self { name, session, panics } = self;
         let (window, samples) = (&session.windows[0], &session.pools.internal.samples);
         let [number, stage] = refusals::outcome(session.judge(window));
-        let (place, pools) = session.run_unchecked(window);
+        let (places, pools) = session.run_unchecked(&session.windows);
         let [before, after] = [samples, &pools.internal.samples].map(|samples| show::numbers(samples));
-        println!("{name}: 01 and the program {number}, stage {stage}");
-        println!("  the Rust {}; of the internal samples {before} it leaves {after}", panics::doing(&place));
+        println!("{name}: the documents and the program {number}, stage {stage}");
+        println!("  the Rust {}; of the internal samples {before} it leaves {after}", panics::doing(&places[0]));
+        places[1..].iter().for_each(|place| println!("  in the next window the Rust {}", panics::doing(place)));
         let unchanged = samples.iter().map(|sample| sample.to_bits());
         let refused: Vec<u64> = [number, stage, 0].into_iter().chain(unchanged).collect();
-        Ok(answers(program, &Case::Session(session.clone()), &refused)? && panics == place.is_some())
+        let case = Case::Session(session.clone());
+        let mut answer = Answer::default();
+        case.answer(&mut answer).map_err(|why| why.0)?;
+        let as_listed = answer.words().starts_with(&refused) && places.iter().map(Option::is_some).eq(panics);
+        Ok(answers(program, &case, answer.words())? && as_listed)
     }
 }
 
@@ -107,7 +119,7 @@ fn show_numbers(program: &Program) -> Result<bool, Box<dyn Error>> {
 }
 
 fn phase_of_seven() -> Session {
-    let sine = stage(&Kind::Oscillator(OscillatorType::Sin), &[], internal(0));
+    let sine = stage(&Kind::Oscillator(OscillatorType::Sin), &[], &[internal(0)]);
     let mut session = lent(good_pools([1, 0], [1, 0]), vec![sine]).with_new_states();
     session.states[0].numbers[0] = 7.0;
     session.windows = vec![window(false, 1, &[0])];

@@ -7,6 +7,7 @@ use crate::case::Case;
 use crate::compare::Compare;
 use crate::compare::Report;
 use crate::tally::Numbers;
+use crate::tally::Tally;
 
 /// Small cases of one or several sorts, which have a column of the table.
 pub struct Family {
@@ -17,18 +18,22 @@ pub struct Family {
 
 pub type Column = (&'static str, Numbers);
 
-/// The columns, or nothing where the program answers a case otherwise than expected, which is then shown.
-pub fn ask(compare: &Compare, families: impl Iterator<Item = Family>) -> Result<Option<Vec<Column>>, Box<dyn Error>> {
-    let mut columns = Vec::new();
+/// The columns and all that was met, or nothing where the program answers a case otherwise than expected, which is then shown.
+pub fn ask(
+    compare: &Compare,
+    families: impl Iterator<Item = Family>,
+) -> Result<Option<(Vec<Column>, Tally)>, Box<dyn Error>> {
+    let (mut columns, mut tally) = (Vec::new(), Tally::default());
     for Family { name, cases, .. } in families {
         let mut report = Report::default();
         if let Some(different) = compare.first_different(cases(), &mut report)? {
             println!("{different}");
             return Ok(None);
         }
-        columns.push((name, report.tally.outcomes));
+        columns.push((name, report.tally.outcomes.clone()));
+        tally.add(report.tally);
     }
-    Ok(Some(columns))
+    Ok(Some((columns, tally)))
 }
 
 /// Numbers down, columns across.

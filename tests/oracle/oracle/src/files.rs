@@ -11,7 +11,7 @@ use crate::small::files;
 /// Whether every file is read or refused as document 02 says.
 pub fn run(compare: &Compare) -> Result<bool, Box<dyn Error>> {
     let begin = Instant::now();
-    let Some(columns) = families::ask(compare, FAMILIES.into_iter())? else {
+    let Some((columns, _)) = families::ask(compare, FAMILIES.into_iter())? else {
         return Ok(false);
     };
     families::print_table(&columns);

@@ -56,7 +56,7 @@ oracle compare ASKED [--cases N] [--seed N] [--sort S]
 oracle differences ASKED [--inputs]
 oracle files ASKED
 oracle refused ASKED [--sort S]
-oracle orders ASKED [--cases N] [--seed N]
+oracle orders ASKED [--cases N] [--seed N] [--new-states]
 where ASKED is [--replay PROGRAM] [--start PROGRAM] [--failing FILE]";
 
 /// The options that say which program is asked, how it is started, and where a case is kept that it answers otherwise.
@@ -88,7 +88,7 @@ fn run() -> Result<bool, Box<dyn Error>> {
         "compare" => compare(Options::new(words, &[&ASKED[..], &["cases", "seed", "sort"]].concat(), &[])?),
         "differences" => differences(Options::new(words, &ASKED, &["inputs"])?),
         "files" => files::run(&asked(&Options::new(words, &ASKED, &[])?)?),
-        "orders" => orders(Options::new(words, &[&ASKED[..], &["cases", "seed"]].concat(), &[])?),
+        "orders" => orders(Options::new(words, &[&ASKED[..], &["cases", "seed"]].concat(), &["new-states"])?),
         "refused" => refused(Options::new(words, &[&ASKED[..], &["sort"]].concat(), &[])?),
         _ => Err(USAGE.into()),
     }
@@ -189,5 +189,5 @@ fn differences(options: Options) -> Result<bool, Box<dyn Error>> {
 
 fn orders(options: Options) -> Result<bool, Box<dyn Error>> {
     let patches = options.value("cases", CASES)? / orders::SESSIONS;
-    orders::run(&asked(&options)?.program, patches, options.value("seed", 1)?)
+    orders::run(&asked(&options)?.program, patches, options.value("seed", 1)?, options.given("new-states"))
 }

@@ -1,5 +1,5 @@
-//! A second reading of document 01's table of refusals. The Rust does not refuse, so these answers do not come from it: they
-//! are written from the document alone.
+//! A second reading of document 01's table of refusals, and of what document 02 adds to it. The Rust does not refuse, so these
+//! answers do not come from it: they are written from the documents alone.
 
 use crate::pools::Buffer;
 use crate::pools::Marks;
@@ -82,7 +82,7 @@ pub fn ring(length: usize, position: u64) -> Verdict {
     unless((1..=MOST_BUFFER_SIZE as usize + 1).contains(&length) && position < length as u64, 4)
 }
 
-/// A run: 1 to 4, then 5, 6, 7 for each stage along the order.
+/// A run: 1 to 4, then 5, 8, 6, 7 for each stage along the order.
 pub fn run(session: &Session, pools: &Pools, window: &Window) -> Verdict {
     unless(session.stage_count <= MOST_STAGES && pools_fit(pools), 1)?;
     unless(window_fits(pools, window.n), 2)?;
@@ -92,11 +92,12 @@ pub fn run(session: &Session, pools: &Pools, window: &Window) -> Verdict {
     let mut marks = pools.marks.clone();
     for &number in &window.order {
         let stage = &session.stages[number as usize];
-        let mut named = stage.inputs.iter().chain([&stage.output]);
+        let (mut named, mut outputs) = (stage.inputs.iter().chain(&stage.outputs), stage.outputs.iter());
         unless_at(named.all(|&buffer| pools.has(buffer)), 5, number)?;
+        unless_at(outputs_differ(stage), 8, number)?;
         unless_at(parameters_found(stage, window.values.len()), 6, number)?;
-        unless_at(reads_apart(window.n, &stage.inputs, stage.output, &marks), 7, number)?;
-        marks.set(stage.output, false);
+        unless_at(outputs.all(|&output| reads_apart(window.n, &stage.inputs, output, &marks)), 7, number)?;
+        stage.outputs.iter().for_each(|&output| marks.set(output, false));
     }
     Ok(())
 }
@@ -122,12 +123,24 @@ fn rings_fit(session: &Session) -> bool {
     })
 }
 
+/// "8, both outputs are the same buffer at any window length."
+fn outputs_differ(stage: &Stage) -> bool {
+    !matches!(stage.outputs[..], [left, right] if left == right)
+}
+
 fn parameters_found(stage: &Stage, values: usize) -> bool {
-    stage.parameters.iter().zip(stage.kind.roles()).all(|(parameter, role)| match *parameter {
+    let found = stage.parameters.iter().zip(stage.kind.roles()).all(|(parameter, role)| match *parameter {
         Parameter::Absent => role.may_be_absent(),
         Parameter::Slot(slot) => slot < values as u64,
         Parameter::Fixed(_) | Parameter::WindowSeconds => true,
-    })
+    });
+    found && !just_one_level_absent(stage)
+}
+
+/// "6 also where just one level of the pair is absent."
+fn just_one_level_absent(stage: &Stage) -> bool {
+    let levels = stage.parameters.iter().zip(stage.kind.roles()).filter(|(_, role)| role.is_of_a_pair());
+    levels.filter(|(level, _)| matches!(level, Parameter::Absent)).count() == 1
 }
 
 /// Whether the window is empty, or the output is none of the inputs, or it is stale.

@@ -14,6 +14,10 @@ pub enum Role {
     Phase,
     StringFrequency,
     Feedback,
+    LeftLevel,
+    RightLevel,
+    LeftGain,
+    RightGain,
     Sample,
     Width,
     Fraction,
@@ -31,6 +35,10 @@ impl Role {
             Role::Frequency | Role::StringFrequency => "frequency",
             Role::Phase => "phase",
             Role::Feedback => "feedback",
+            Role::LeftLevel => "left level",
+            Role::RightLevel => "right level",
+            Role::LeftGain => "left gain",
+            Role::RightGain => "right gain",
             Role::Sample => "sample",
             Role::Width => "width",
             Role::Fraction => "fraction",
@@ -38,9 +46,14 @@ impl Role {
         }
     }
 
-    /// "Only out_level and phase may be absent."
+    /// "Only out_level and phase may be absent", and document 02's pair of levels as a whole.
     pub fn may_be_absent(self) -> bool {
-        matches!(self, Role::OutLevel | Role::Phase)
+        matches!(self, Role::OutLevel | Role::Phase) || self.is_of_a_pair()
+    }
+
+    /// Whether it may be absent only where its neighbour is.
+    pub fn is_of_a_pair(self) -> bool {
+        matches!(self, Role::LeftLevel | Role::RightLevel)
     }
 }
 
@@ -120,8 +133,10 @@ impl Values {
         let random = &mut self.random;
         let odd = random.once_in(6);
         match role {
-            Role::OutLevel if odd => random.pick(&[0.0, 1.0, -1.0, 2.0]),
-            Role::OutLevel => random.uniform(-1.2, 1.2),
+            Role::OutLevel | Role::LeftLevel | Role::RightLevel | Role::LeftGain | Role::RightGain => match odd {
+                true => random.pick(&[0.0, 1.0, -1.0, 2.0]),
+                false => random.uniform(-1.2, 1.2),
+            },
             Role::Limit => random.uniform(-0.3, 1.2),
             Role::Cutoff => random.logarithmic(1e-4, 0.4) / self.width,
             Role::Resonance if odd => random.pick(&[0.0, 0.125, 0.25, 0.375, 0.5]) / self.width,

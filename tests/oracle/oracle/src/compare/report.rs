@@ -9,6 +9,7 @@ use crate::session::PARAMETERS;
 use crate::session::WINDOWS;
 use crate::session::kind;
 use crate::session::kind::KINDS;
+use crate::session::rarest_pair;
 use crate::tally::Tally;
 
 #[derive(Default)]
@@ -66,13 +67,13 @@ impl Report {
 
     /// Parameters of each kind down; windows, and the classes of parameters in each, across. A hole is a dash.
     fn parameters(&self, f: &mut fmt::Formatter) -> fmt::Result {
-        write!(f, "\n{:31}", "parameters met")?;
+        write!(f, "\n{:32}", "parameters met")?;
         WINDOWS.iter().try_for_each(|window| write!(f, "{window:<35}"))?;
-        write!(f, "\n{:31}", "")?;
+        write!(f, "\n{:32}", "")?;
         WINDOWS.iter().flat_map(|_| PARAMETERS).try_for_each(|class| write!(f, "{class:>7}"))?;
         let mut holes = 0;
         for (family, role) in KINDS.iter().flat_map(|kind| kind.roles().iter().map(|role| (kind.family(), *role))) {
-            write!(f, "\n{family:21}{:10}", role.name())?;
+            write!(f, "\n{family:21}{:11}", role.name())?;
             let cells = WINDOWS.iter().flat_map(|window| PARAMETERS.iter().map(move |class| (window, class)));
             for (window, class) in cells {
                 let count = self.tally.crossed.get(&[family, role.name(), window, class]).copied().unwrap_or_default();
@@ -81,7 +82,8 @@ impl Report {
                 holes += u64::from(possible && count == 0);
             }
         }
-        writeln!(f, "\nholes in this table: {holes}\n")
+        let (pairs, rarest) = rarest_pair(&self.tally);
+        writeln!(f, "\nholes in this table: {holes}\n\nPan's outputs: {pairs} ways, {rarest} of the rarest")
     }
 
     /// The parts, and refusals.

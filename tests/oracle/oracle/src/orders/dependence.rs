@@ -1,13 +1,16 @@
-//! Which stages depend on each other, from document 01 alone, and orders that keep their sequence or break it.
+//! Which stages depend on each other, from documents 01 and 02 alone, and orders that keep their sequence or break it.
 
+use crate::pools::Buffer;
 use crate::random::Random;
 use crate::session::Session;
 use crate::session::Stage;
 
 /// Whether one of the two writes a buffer that the other reads or writes.
 fn dependent(one: &Stage, other: &Stage) -> bool {
-    let touches = |stage: &Stage, buffer| stage.output == buffer || stage.inputs.contains(&buffer);
-    touches(other, one.output) || touches(one, other.output)
+    let touches = |stage: &Stage, outputs: &[Buffer]| {
+        outputs.iter().any(|output| stage.outputs.contains(output) || stage.inputs.contains(output))
+    };
+    touches(other, &one.outputs) || touches(one, &other.outputs)
 }
 
 /// The same of two numbers in an order. A number without a stage depends on none.

@@ -27,11 +27,11 @@ const BATCH: usize = 1 << 22;
 /// How many other orders are tried for each step towards a smaller session.
 const TRIED: u64 = 8;
 
-/// Whether all consistent orders ended the same.
-pub fn run(program: &Program, patches: u64, seed: u64) -> Result<bool, Box<dyn Error>> {
+/// Whether all consistent orders ended the same. From new states the oracle itself can be the program.
+pub fn run(program: &Program, patches: u64, seed: u64, new_states: bool) -> Result<bool, Box<dyn Error>> {
     let begin = Instant::now();
     let mut report = Report::default();
-    let mut trials = (0..patches).map(|number| Trial::random(seed, number));
+    let mut trials = (0..patches).map(|number| Trial::random(seed, number, new_states));
     loop {
         let batch = batch(&mut trials);
         if batch.is_empty() {
@@ -80,7 +80,7 @@ fn show(program: &Program, session: &Session) {
     };
     let differs = |case: &Case| matches!(case, Case::Session(session) if other_end(session).is_some());
     let case = smallest(Case::Session(session.clone()), differs);
-    println!("DIFFERENT in consistent orders\n{}", case.show());
+    println!("DIFFERENT in consistent orders\nsort {}\n{}", case.sort(), case.show());
     if let Case::Session(session) = case
         && let Some(other) = other_end(&session)
     {

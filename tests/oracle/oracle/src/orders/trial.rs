@@ -31,14 +31,17 @@ pub struct Ended {
 }
 
 impl Trial {
-    pub fn random(seed: u64, number: u64) -> Self {
+    /// From states and rings that hold anything, or from new ones.
+    pub fn random(seed: u64, number: u64, new_states: bool) -> Self {
         let mut values = Values::new(&[seed, u64::from(u32::MAX), number]);
         let refused = number % REFUSED == REFUSED - 1;
         let mut session = Session::random(&mut values, refused);
         while session.rings.len() > MOST_SHOWN || session.windows.iter().all(|window| window.order.len() < 2) {
             session = Session::random(&mut values, refused);
         }
-        start_anywhere(&mut values, &mut session);
+        if !new_states {
+            start_anywhere(&mut values, &mut session);
+        }
         Self::of(session, number)
     }
 

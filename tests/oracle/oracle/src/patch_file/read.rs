@@ -127,9 +127,9 @@ impl Agenda {
         }
     }
 
-    /// Choices, buffer_size, inputs and output, parameters: the last of them first.
+    /// Choices, buffer_size, inputs and outputs, parameters: the last of them first.
     fn add_stage(&mut self, kind: &Kind) {
-        let plain = usize::from(kind.buffer_size().is_some()) + kind.inputs() + 1;
+        let plain = usize::from(kind.buffer_size().is_some()) + kind.inputs() + kind.outputs();
         self.0.extend(kind.roles().iter().map(|_| Due::Mark));
         self.0.extend(iter::repeat_n(Due::Plain, plain));
         self.0.extend(kind.choices().iter().rev().map(|&count| Due::Choice(count as u64)));
@@ -188,12 +188,20 @@ mod tests {
         assert_eq!(outcome(&[1, 0]), (0, 2));
         assert_eq!(outcome(&[1, 0, 0, 0]), (LEFT_OVER, 2));
         assert_eq!(outcome(&[1, 33]), (TOO_MANY_STAGES, 1));
-        assert_eq!(outcome(&[1, 1, 14]), (UNKNOWN, 2));
+        assert_eq!(outcome(&[1, 1, 15]), (UNKNOWN, 2));
         assert_eq!(outcome(&[1, 1, 11, 5, 9]), (UNKNOWN, 3));
         assert_eq!(outcome(&[1, 1, 11, 4, 2]), (UNKNOWN, 4));
         assert_eq!(outcome(&[1, 1, 0, 8, 9, 4]), (UNKNOWN, 5));
         assert_eq!(outcome(&[1, 1, 0, 8, 9, 1, 0, 0, 0, 0, 0, 0, 0]), (ENDS_EARLY, 6));
         assert_eq!(outcome(&[1, 1, 0, 8, 9, 1, 0, 0, 0, 0, 0, 0, 0, 0]), (0, 7));
+    }
+
+    #[test]
+    fn pan_has_three_buffers_and_four_parameters() {
+        assert_eq!(outcome(&[1, 1, 14]), (ENDS_EARLY, 3));
+        assert_eq!(outcome(&[1, 1, 14, 0, 2, 9, 0, 0, 3, 3]), (0, 10));
+        assert_eq!(outcome(&[1, 1, 14, 0, 2, 9, 0, 0, 3]), (ENDS_EARLY, 9));
+        assert_eq!(outcome(&[1, 1, 14, 0, 2, 9, 0, 0, 3, 3, 3]), (LEFT_OVER, 10));
     }
 
     #[test]

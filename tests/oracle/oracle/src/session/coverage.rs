@@ -1,4 +1,4 @@
-//! What a run meets: each ordered stage with the window, its parameters, its inputs and its output.
+//! What a run meets: each ordered stage with the window, its parameters, its inputs and its outputs.
 
 use super::Session;
 use super::Stage;
@@ -10,7 +10,7 @@ use crate::pools::Pools;
 use crate::refusals::Refusal;
 use crate::tally::Tally;
 
-/// The circumstances of a stage, as the columns of a table: window, beginning, parameters, inputs, output, width.
+/// The circumstances of a stage, as the columns of a table: window, beginning, parameters, inputs, outputs, width.
 pub const CIRCUMSTANCES: [&str; 21] = [
     "n=0", "n=1", "n<c-1", "n=c-1", "n=c", "prep", "kept", "absent", "fixed", "slot", "secs", "edge", "stale", "old",
     "new", "in.ext", "store", "add", "o.ext", "in=out", "odd w",
@@ -21,7 +21,32 @@ pub const CIRCUMSTANCES: [&str; 21] = [
 pub const WINDOWS: &[&str] = CIRCUMSTANCES.split_at(5).0;
 pub const PARAMETERS: &[&str] = CIRCUMSTANCES.split_at(7).1.split_at(5).0;
 
-const REFUSALS: [&str; 8] = ["", "1", "2", "3", "4", "5", "6", "7"];
+const REFUSALS: [&str; 9] = ["", "1", "2", "3", "4", "5", "6", "7", "8"];
+
+/// Pan's outputs: how left and right are written, by whether they are stale; where they lie, by whether they are external; and
+/// which of them is the input.
+const WRITTEN: [[&str; 2]; 2] = [["add, add", "add, store"], ["store, add", "store, store"]];
+const POOLS: [[&str; 2]; 2] =
+    [["internal, internal", "internal, external"], ["external, internal", "external, external"]];
+const HEARD: [&str; 3] = ["neither", "left", "right"];
+
+/// Every way in which these meet where a window with samples is accepted: an output that is the input is then stale.
+fn pairs() -> impl Iterator<Item = [&'static str; 4]> {
+    let lying = POOLS.as_flattened().iter().flat_map(|pools| HEARD.map(|heard| (pools, heard)));
+    let all = lying
+        .flat_map(|(pools, heard)| WRITTEN.into_iter().flatten().map(move |written| ["Pan", written, pools, heard]));
+    all.filter(|[_, written, _, heard]| match *heard {
+        "left" => written.starts_with("store"),
+        "right" => written.ends_with("store"),
+        _ => true,
+    })
+}
+
+/// How many ways there are, and how often the rarest was met.
+pub fn rarest_pair(tally: &Tally) -> (usize, u64) {
+    let met = pairs().map(|pair| tally.crossed.get(&pair).copied().unwrap_or_default());
+    (pairs().count(), met.min().unwrap_or_default())
+}
 
 /// Orders by their length, in eights.
 const ORDERS: [&str; 5] = ["00", "01 to 08", "09 to 16", "17 to 24", "25 to 32"];
@@ -33,9 +58,10 @@ pub fn meet_refusal(thing: &'static str, refusal: Refusal, tally: &mut Tally) {
 pub fn meet_run(session: &Session, pools: &Pools, window: &Window, tally: &mut Tally) {
     let mut turn = Turn { window, capacity: pools.internal.capacity, marks: pools.marks.clone(), written: Vec::new() };
     for &number in &window.order {
-        turn.meet(&session.stages[number as usize], tally);
+        let stage = &session.stages[number as usize];
+        turn.meet(stage, tally);
+        tally.rendered += window.n * stage.outputs.len() as u64;
     }
-    tally.rendered += window.n * window.order.len() as u64;
     tally.meet("orders", ORDERS[window.order.len().div_ceil(8)]);
 }
 
@@ -61,21 +87,37 @@ impl Turn<'_> {
         for &input in &stage.inputs {
             tally.meet(name, self.input_class(input));
         }
-        let stale = self.marks.stale(stage.output);
         let others = [
             (window.prepare, "prep"),
             (!window.prepare, "kept"),
             (stage.inputs.iter().any(|input| input.external), "in.ext"),
-            (stale, "store"),
-            (!stale, "add"),
-            (stage.output.external, "o.ext"),
-            (stage.inputs.contains(&stage.output), "in=out"),
             (!(window.width.is_normal() && window.width > 0.0), "odd w"),
         ];
-        let others = others.into_iter().filter_map(|(met, class)| met.then_some(class));
+        let outputs = stage.outputs.iter().flat_map(|&output| self.output_classes(output, &stage.inputs));
+        let others = others.into_iter().chain(outputs).filter_map(|(met, class)| met.then_some(class));
         sizes.into_iter().chain(others).for_each(|class| tally.meet(name, class));
-        self.marks.set(stage.output, false);
-        self.written.push(stage.output);
+        if let [left, right] = stage.outputs[..]
+            && window.n > 0
+        {
+            tally.cross(self.pair(stage.inputs[0], [left, right]));
+        }
+        for &output in &stage.outputs {
+            self.marks.set(output, false);
+            self.written.push(output);
+        }
+    }
+
+    fn output_classes(&self, output: Buffer, inputs: &[Buffer]) -> [(bool, &'static str); 4] {
+        let stale = self.marks.stale(output);
+        [(stale, "store"), (!stale, "add"), (output.external, "o.ext"), (inputs.contains(&output), "in=out")]
+    }
+
+    /// One of `pairs`.
+    fn pair(&self, input: Buffer, outputs: [Buffer; 2]) -> [&'static str; 4] {
+        let stale = outputs.map(|output| usize::from(self.marks.stale(output)));
+        let external = outputs.map(|output| usize::from(output.external));
+        let heard = outputs.iter().position(|output| *output == input).map_or(0, |place| 1 + place);
+        ["Pan", WRITTEN[stale[0]][stale[1]], POOLS[external[0]][external[1]], HEARD[heard]]
     }
 
     /// An input is stale, or holds what came before the window, or what this order has written.

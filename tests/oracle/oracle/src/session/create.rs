@@ -1,5 +1,7 @@
-//! A stage made by the Rust's own create functions, which take outputs of both kinds.
+//! A stage made by the Rust's own create functions, which take outputs of both kinds. It has none for Pan, which is made in
+//! their manner.
 
+use magnetron::automation::Automated;
 use magnetron::automation::AutomationFactory;
 use microwave::magnetron::GeneratorType;
 use microwave::magnetron::MergeProcessorType;
@@ -21,7 +23,10 @@ impl Stage {
     /// The Rust's stage in its new state; nothing where a required parameter is absent.
     pub fn create(&self) -> Option<RustStage> {
         let factory = &mut AutomationFactory::new(());
-        let (output, level) = (self.output.into(), self.parameters[0].given());
+        if let Kind::Pan = self.kind {
+            return self.pan(factory);
+        }
+        let (output, level) = (self.outputs[0].into(), self.parameters[0].given());
         if let Kind::Oscillator(waveform) = &self.kind {
             let generator = GeneratorType::Oscillator(self.oscillator(waveform)?);
             return Some(generator.create(factory, output, level));
@@ -31,6 +36,17 @@ impl Stage {
             return Some(MergeProcessorType::RingModulator.create(factory, inputs, output, level));
         }
         Some(self.processor()?.create(factory, self.inputs[0].into(), output, level))
+    }
+
+    /// The Rust's `read_1_write_2`. Its levels are a pair or nothing: it has no pair of which just one is absent.
+    fn pan(&self, factory: &mut AutomationFactory<Parameter>) -> Option<RustStage> {
+        let (input, outputs) = (self.inputs[0].into(), (self.outputs[0].into(), self.outputs[1].into()));
+        let out_levels = self.required(0).zip(self.required(1));
+        let gains = (self.required(2)?, self.required(3)?);
+        let automated = factory.automate((out_levels, gains));
+        Some(automated.into_stage(move |buffers, (out_levels, (left, right))| {
+            buffers.read_1_write_2(input, outputs, out_levels, |s| (s * left, s * right))
+        }))
     }
 
     fn required(&self, number: usize) -> Option<Parameter> {

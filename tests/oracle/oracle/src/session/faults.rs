@@ -15,7 +15,7 @@ use crate::values::Values;
 
 pub fn add_faults(values: &mut Values, session: &mut Session) {
     for _ in 0..values.random.between(1, 3) {
-        match values.random.below(8) {
+        match values.random.below(10) {
             0 => random_pools::add_fault(values, &mut session.pools),
             1 => too_many_stages(values, session),
             2 => windows(values, session),
@@ -23,6 +23,8 @@ pub fn add_faults(values: &mut Values, session: &mut Session) {
             4 => rings(values, session),
             5 => buffers(values, session),
             6 => parameters(values, session),
+            // Not every patch has a stage for it, so it comes twice as often.
+            7..9 => pairs(values, session),
             _ => own_inputs(values, session),
         }
     }
@@ -41,7 +43,12 @@ fn too_many_stages(values: &mut Values, session: &mut Session) {
     session.stage_count = values.random.pick(&[33, 34, 1 << 32, u64::MAX]);
     session.stages.resize(
         32,
-        Stage { parameters: vec![Parameter::Absent], inputs: vec![Default::default()], ..Stage::default() },
+        Stage {
+            parameters: vec![Parameter::Absent],
+            inputs: vec![Default::default()],
+            outputs: vec![Default::default()],
+            ..Stage::default()
+        },
     );
 }
 
@@ -92,7 +99,7 @@ fn rings(values: &mut Values, session: &mut Session) {
 fn buffers(values: &mut Values, session: &mut Session) {
     for stage in &mut session.stages {
         if values.random.once_in(4) {
-            let named = stage.inputs.iter_mut().chain([&mut stage.output]);
+            let named = stage.inputs.iter_mut().chain(&mut stage.outputs);
             named.for_each(|buffer| *buffer = random_pools::stray_buffer(values, &session.pools));
         }
     }
@@ -109,13 +116,27 @@ fn parameters(values: &mut Values, session: &mut Session) {
     }
 }
 
+/// Both outputs the same buffer, or just one level absent.
+fn pairs(values: &mut Values, session: &mut Session) {
+    for stage in session.stages.iter_mut().filter(|stage| matches!(stage.kind, Kind::Pan)) {
+        match values.random.below(4) {
+            0..2 => stage.outputs[1] = stage.outputs[0],
+            place => {
+                stage.parameters[..2].fill(Parameter::Fixed(values.number(Role::LeftLevel)));
+                stage.parameters[place as usize - 2] = Parameter::Absent;
+            }
+        }
+    }
+}
+
 /// Outputs that are inputs, and windows that begin without prepare.
 fn own_inputs(values: &mut Values, session: &mut Session) {
     for stage in &mut session.stages {
         if let Some(&input) = stage.inputs.last()
             && values.random.once_in(3)
         {
-            stage.output = input;
+            let place = values.random.below(stage.outputs.len() as u64) as usize;
+            stage.outputs[place] = input;
         }
     }
     for window in &mut session.windows {

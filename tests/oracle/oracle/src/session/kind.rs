@@ -1,4 +1,4 @@
-//! The fourteen kinds of stages and their choices.
+//! The fifteen kinds of stages and their choices.
 
 use microwave::magnetron::oscillator::Modulation;
 use microwave::magnetron::oscillator::OscillatorType;
@@ -26,9 +26,10 @@ pub enum Kind {
     ModulatedOscillator(OscillatorType, Modulation),
     Waveguide(Reflectance, u64),
     RingModulator,
+    Pan,
 }
 
-pub const KINDS: [Kind; 14] = [
+pub const KINDS: [Kind; 15] = [
     Kind::Pass,
     Kind::Pow3,
     Kind::Clip,
@@ -43,6 +44,7 @@ pub const KINDS: [Kind; 14] = [
     Kind::ModulatedOscillator(OscillatorType::Sin, Modulation::ByPhase),
     Kind::Waveguide(Reflectance::Positive, 0),
     Kind::RingModulator,
+    Kind::Pan,
 ];
 
 pub const WAVEFORMS: [OscillatorType; 5] = [
@@ -109,6 +111,14 @@ impl Kind {
         }
     }
 
+    /// How many buffers it writes: Pan left and right.
+    pub fn outputs(&self) -> usize {
+        match self {
+            Kind::Pan => 2,
+            _ => 1,
+        }
+    }
+
     /// What its parameters are, in their order.
     pub fn roles(&self) -> &'static [Role] {
         use Role::*;
@@ -121,6 +131,7 @@ impl Kind {
             }
             Kind::Oscillator(_) | Kind::ModulatedOscillator(..) => &[OutLevel, Frequency, Phase],
             Kind::Waveguide(..) => &[OutLevel, StringFrequency, Cutoff, Feedback],
+            Kind::Pan => &[LeftLevel, RightLevel, LeftGain, RightGain],
         }
     }
 
@@ -160,6 +171,7 @@ impl Kind {
             Kind::Waveguide(Reflectance::Positive, _) => "Waveguide Positive",
             Kind::Waveguide(Reflectance::Negative, _) => "Waveguide Negative",
             Kind::RingModulator => "RingModulator",
+            Kind::Pan => "Pan",
         }
     }
 }

@@ -13,6 +13,7 @@ mod smaller;
 pub use coverage::CIRCUMSTANCES;
 pub use coverage::PARAMETERS;
 pub use coverage::WINDOWS;
+pub use coverage::rarest_pair;
 use kind::Kind;
 use parameter::Parameter;
 pub use show::show_stage;
@@ -52,7 +53,8 @@ pub struct Session {
 pub struct Stage {
     pub kind: Kind,
     pub inputs: Vec<Buffer>,
-    pub output: Buffer,
+    /// One, or left and right.
+    pub outputs: Vec<Buffer>,
     pub parameters: Vec<Parameter>,
 }
 
@@ -112,7 +114,7 @@ impl Pass for Stage {
     fn pass(&mut self, tape: &mut dyn Tape) -> Passed {
         self.kind.pass(tape)?;
         tape.items(&mut self.inputs, self.kind.inputs() as u64, Buffer::pass)?;
-        self.output.pass(tape)?;
+        tape.items(&mut self.outputs, self.kind.outputs() as u64, Buffer::pass)?;
         tape.items(&mut self.parameters, self.kind.roles().len() as u64, Parameter::pass)
     }
 }

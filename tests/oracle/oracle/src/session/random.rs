@@ -25,7 +25,7 @@ use crate::values::Role;
 use crate::values::Values;
 
 /// What a slot's value is for, whoever reads it.
-const SLOTS: [Role; 9] = [
+const SLOTS: [Role; 13] = [
     Role::OutLevel,
     Role::Limit,
     Role::Cutoff,
@@ -35,6 +35,10 @@ const SLOTS: [Role; 9] = [
     Role::Phase,
     Role::StringFrequency,
     Role::Feedback,
+    Role::LeftLevel,
+    Role::RightLevel,
+    Role::LeftGain,
+    Role::RightGain,
 ];
 
 pub fn session(values: &mut Values, refused: bool) -> Session {
@@ -84,12 +88,26 @@ fn stage(values: &mut Values, pools: &Pools, slots: &[Role]) -> Stage {
     let astray = values.random.once_in(40);
     let buffer = if astray { random_pools::stray_buffer } else { random_pools::buffer };
     let inputs: Vec<Buffer> = (0..kind.inputs()).map(|_| buffer(values, pools)).collect();
-    let mut output = buffer(values, pools);
-    while inputs.contains(&output) && !values.random.once_in(4) {
-        output = buffer(values, pools);
+    let mut outputs: Vec<Buffer> = Vec::new();
+    for _ in 0..kind.outputs() {
+        let mut output = buffer(values, pools);
+        while (inputs.contains(&output) || outputs.contains(&output)) && !values.random.once_in(4) {
+            output = buffer(values, pools);
+        }
+        outputs.push(output);
     }
-    let parameters = kind.roles().iter().map(|&role| parameter(values, role, slots, astray)).collect();
-    Stage { kind, inputs, output, parameters }
+    let mut parameters: Vec<_> = kind.roles().iter().map(|&role| parameter(values, role, slots, astray)).collect();
+    if let Kind::Pan = kind {
+        pair_levels(values, &mut parameters[..2]);
+    }
+    Stage { kind, inputs, outputs, parameters }
+}
+
+/// Where one level is absent, the other mostly is: else no order would have the stage.
+fn pair_levels(values: &mut Values, levels: &mut [Parameter]) {
+    if levels.iter().any(|level| level.given().is_none()) && !values.random.once_in(8) {
+        levels.fill(Parameter::Absent);
+    }
 }
 
 /// Each kind as often as another, and each with its choices as often as another, by turns.
@@ -143,7 +161,7 @@ fn add_windows(values: &mut Values, session: &mut Session, slots: &[Role]) {
             window.order.retain(|&number| number != refusal.stage);
         }
         for &number in &window.order {
-            now.marks.set(session.stages[number as usize].output, false);
+            session.stages[number as usize].outputs.iter().for_each(|&output| now.marks.set(output, false));
         }
         session.windows.push(window);
     }

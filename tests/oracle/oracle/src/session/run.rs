@@ -41,16 +41,20 @@ impl Session {
         host.judge(window).map_err(|(_, refusal)| refusal)
     }
 
-    /// Has the Rust run a window on the session as it is lent, from new states, whatever the table says. Tells where it
-    /// panics, if it does, and what then stands in the pools. Slices, orders and parameters must be such as the Rust can have.
-    pub fn run_unchecked(&self, window: &Window) -> (Option<String>, Pools) {
+    /// Has the Rust run windows on the session as it is lent, one after another in the same buffers of its own, each from new
+    /// states, whatever the table says. Tells for each where it panics, if it does, and what then stands in the pools. Slices,
+    /// orders and parameters must be such as the Rust can have; the first window's settings and width are those of all.
+    pub fn run_unchecked(&self, windows: &[Window]) -> (Vec<Option<String>>, Pools) {
         let mut host = self.host();
-        host.set(window);
-        let mut ordered = host.take(&window.order);
-        let mut laid = Laid::new(&host.pools, window.width);
-        let place = panics::place(|| _ = window.process(&mut laid, &mut ordered));
+        host.set(&windows[0]);
+        let mut laid = Laid::new(&host.pools, windows[0].width);
+        let places = windows.iter().map(|window| {
+            let mut ordered = host.take(&window.order);
+            panics::place(|| _ = window.process(&mut laid, &mut ordered))
+        });
+        let places = places.collect();
         laid.lift(&mut host.pools);
-        (place, host.pools)
+        (places, host.pools)
     }
 
     pub(super) fn answer_windows(&self, answer: &mut Answer) -> Answered {

@@ -28,15 +28,16 @@ fn show_buffer(buffer: &Buffer) -> String {
 }
 
 pub fn show_stage(stage: &Stage) -> String {
-    let inputs: Vec<_> = stage.inputs.iter().map(show_buffer).collect();
+    let [inputs, outputs] =
+        [&stage.inputs, &stage.outputs].map(|buffers| buffers.iter().map(show_buffer).collect::<Vec<_>>());
     let size = stage.kind.buffer_size().map_or(String::new(), |size| format!(" of {size}"));
     let parameters = stage.kind.roles().iter().zip(&stage.parameters).map(|(role, parameter)| match parameter {
         Parameter::Fixed(number) => format!("{role:?} {number:?}"),
         _ => format!("{role:?} {parameter:?}"),
     });
     let parameters: Vec<_> = parameters.collect();
-    let (inputs, output) = (inputs.join(", "), show_buffer(&stage.output));
-    format!("{}{size} from [{inputs}] to {output}, {}", stage.kind.name(), parameters.join(", "))
+    let (inputs, outputs) = (inputs.join(", "), outputs.join(" and "));
+    format!("{}{size} from [{inputs}] to {outputs}, {}", stage.kind.name(), parameters.join(", "))
 }
 
 fn show_window(window: &Window) -> String {

@@ -6,6 +6,7 @@ use super::Window;
 use super::cells;
 use super::parameter::Parameter;
 use crate::shrink::fewer;
+use crate::values::Role;
 
 pub const WAYS: &[fn(&Session) -> Vec<Session>] = &[
     fewer_windows,
@@ -16,6 +17,7 @@ pub const WAYS: &[fn(&Session) -> Vec<Session>] = &[
     plainer_windows,
     fixed_parameters,
     plain_parameters,
+    absent_pairs,
     fewer_lent,
     zero_samples,
     new_states,
@@ -118,11 +120,11 @@ fn plainer_windows(session: &Session) -> Vec<Session> {
 }
 
 /// Each parameter in turn replaced, where it is other than before.
-fn each_parameter(session: &Session, plain: impl Fn(&Parameter, bool) -> Option<Parameter>) -> Vec<Session> {
+fn each_parameter(session: &Session, plain: impl Fn(&Parameter, Role) -> Option<Parameter>) -> Vec<Session> {
     let mut all = Vec::new();
     for (number, stage) in session.stages.iter().enumerate() {
-        for (place, role) in stage.kind.roles().iter().enumerate() {
-            if let Some(parameter) = plain(&stage.parameters[place], role.may_be_absent()) {
+        for (place, &role) in stage.kind.roles().iter().enumerate() {
+            if let Some(parameter) = plain(&stage.parameters[place], role) {
                 all.push(after(session, |session| session.stages[number].parameters[place] = parameter));
             }
         }
@@ -139,14 +141,26 @@ fn fixed_parameters(session: &Session) -> Vec<Session> {
     })
 }
 
-/// Absent where that may be, else 1.
+/// Absent where that may be by itself, else 1.
 fn plain_parameters(session: &Session) -> Vec<Session> {
-    each_parameter(session, |parameter, may_be_absent| match parameter {
+    each_parameter(session, |parameter, role| match parameter {
         Parameter::Absent => None,
-        _ if may_be_absent => Some(Parameter::Absent),
+        _ if role.may_be_absent() && !role.is_of_a_pair() => Some(Parameter::Absent),
         Parameter::Fixed(1.0) => None,
         _ => Some(Parameter::Fixed(1.0)),
     })
+}
+
+/// Both levels of a pair absent.
+fn absent_pairs(session: &Session) -> Vec<Session> {
+    let stages = session.stages.iter().enumerate();
+    let without = stages.filter_map(|(number, stage)| {
+        let levels = stage.kind.roles().iter().filter(|role| role.is_of_a_pair()).count();
+        let given = stage.parameters[..levels].iter().any(|level| level.given().is_some());
+        let absent = |session: &mut Session| session.stages[number].parameters[..levels].fill(Parameter::Absent);
+        given.then(|| after(session, absent))
+    });
+    without.collect()
 }
 
 /// No values, no more rings than are needed, the last buffer gone.

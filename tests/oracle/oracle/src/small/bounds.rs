@@ -67,7 +67,7 @@ fn wirings() -> impl Iterator<Item = Group> {
         array::from_fn(|place| Buffer { index: [14, 15, 16, u64::MAX >> 1][place / 2], external: place % 2 == 1 });
     pools.into_iter().flat_map(move |pools| {
         pairs(buffers).map(move |[input, output]| Group {
-            lent: lent(pools.clone(), vec![stage(&Kind::Pass, &[input], output)]),
+            lent: lent(pools.clone(), vec![stage(&Kind::Pass, &[input], &[output])]),
             windows: [(false, 0), (false, 1), (true, 1)].map(|(prepare, n)| window(prepare, n, &[0])).to_vec(),
         })
     })
@@ -90,7 +90,7 @@ fn strings() -> impl Iterator<Item = Group> {
 
 /// A string whose ring lies behind that of another of two slots, and for which so many cells are left.
 fn one_string(size: u64, position: u64, cells: u64) -> Group {
-    let stages = [string(1), string(0)].map(|kind| stage(&kind, &[internal(0)], internal(1)));
+    let stages = [string(1), string(0)].map(|kind| stage(&kind, &[internal(0)], &[internal(1)]));
     let mut lent = lent(good_pools([2, 0], [1, 0]), stages.to_vec());
     lent.stages[1].kind = string(size);
     lent.states[1].position = position;
@@ -100,7 +100,7 @@ fn one_string(size: u64, position: u64, cells: u64) -> Group {
 }
 
 fn thirty_two_strings(missing: usize) -> Group {
-    let stages = vec![stage(&string(4_095), &[internal(0)], internal(1)); 32];
+    let stages = vec![stage(&string(4_095), &[internal(0)], &[internal(1)]); 32];
     let mut lent = lent(good_pools([2, 0], [1, 0]), stages);
     lent.rings.truncate(cells(&lent.stages) as usize - missing);
     Group { lent, windows: vec![window(true, 1, &[]), window(true, 1, &[31])] }
@@ -114,7 +114,7 @@ fn patch(stage_count: u64) -> Group {
     let orders = [0, 30, 31, 32, 33, 64].map(|length| all[..length].to_vec());
     let single = [30, 31, 32, 33, 255].map(|number| vec![number]);
     let windows = orders.into_iter().chain([twice]).chain(single).map(|order| window(false, 0, &order));
-    let stages = vec![stage(&Kind::Pass, &[internal(0)], internal(0)); stage_count.min(32) as usize];
+    let stages = vec![stage(&Kind::Pass, &[internal(0)], &[internal(0)]); stage_count.min(32) as usize];
     Group { lent: Session { stage_count, ..lent(good_pools([1, 0], [1, 0]), stages) }, windows: windows.collect() }
 }
 

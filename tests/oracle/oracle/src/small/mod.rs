@@ -1,9 +1,11 @@
 //! Small cases for the table of refusals: pools of up to two buffers and samples, orders of up to three stages, each kind of
-//! stage, and what stands at the bounds. tests/oracle/README.md has a table of what is enumerated.
+//! stage, Pan over up to three buffers of each pool, and what stands at the bounds. tests/oracle/README.md has a table of what
+//! is enumerated.
 
 mod bounds;
 pub mod files;
 mod orders;
+mod pan;
 mod parameters;
 pub mod parts;
 mod pools;
@@ -28,7 +30,7 @@ use crate::session::parameter::Parameter;
 /// All small sessions. Each has one window that runs stages, or windows of which none does.
 pub fn sessions() -> impl Iterator<Item = Session> {
     let groups = pools::groups().chain(stages::groups()).chain(parameters::groups()).chain(orders::groups());
-    groups.chain(bounds::groups()).flat_map(Group::sessions)
+    groups.chain(pan::groups()).chain(bounds::groups()).flat_map(Group::sessions)
 }
 
 /// Windows that each meet a session as it is lent.
@@ -83,9 +85,10 @@ pub fn lent(pools: Pools, stages: Vec<Stage>) -> Session {
 }
 
 /// A stage whose parameters are all fixed.
-pub fn stage(kind: &Kind, inputs: &[Buffer], output: Buffer) -> Stage {
+pub fn stage(kind: &Kind, inputs: &[Buffer], outputs: &[Buffer]) -> Stage {
+    let (inputs, outputs) = (&inputs[..kind.inputs()], &outputs[..kind.outputs()]);
     let parameters = kind.roles().iter().map(|_| Parameter::Fixed(0.5)).collect();
-    Stage { kind: kind.clone(), inputs: inputs[..kind.inputs()].to_vec(), output, parameters }
+    Stage { kind: kind.clone(), inputs: inputs.to_vec(), outputs: outputs.to_vec(), parameters }
 }
 
 pub fn window(prepare: bool, n: u64, order: &[u64]) -> Window {
@@ -106,7 +109,7 @@ pub fn external(index: u64) -> Buffer {
 }
 
 /// Each kind once, its choices by turns; strings of three slots.
-fn each_kind(turn: usize) -> [Kind; 14] {
+fn each_kind(turn: usize) -> [Kind; KINDS.len()] {
     KINDS.map(|family| {
         let mut members = kind::all();
         members.retain(|kind| kind.family() == family.family());

@@ -34,7 +34,8 @@ fn with_orders(lent: Session, stages: u64) -> Group {
     Group { lent, windows: windows.collect() }
 }
 
-/// Three stages over two buffers, both internal or one of them external, wired in every way and marked in every way.
+/// Three stages over two buffers, both internal or one of them external, wired in every way and marked in every way. Pan writes
+/// both.
 fn three_stages() -> impl Iterator<Item = Group> {
     let pools = [[2, 0], [1, 1]].into_iter().flat_map(|counts| all_marks(good_pools(counts, [1, 1])));
     let wired = pools.flat_map(|pools| (0..64usize).map(move |wiring| (pools.clone(), wiring)));
@@ -44,7 +45,7 @@ fn three_stages() -> impl Iterator<Item = Group> {
         let kinds = each_kind(wiring).into_iter().cycle().skip(wiring);
         let stages = kinds.take(3).zip([wiring, wiring / 4, wiring / 16]).map(|(kind, wire)| {
             let input = buffers[wire / 2 % 2];
-            stage(&kind, &[input; 2], buffers[wire % 2])
+            stage(&kind, &[input; 2], &[buffers[wire % 2], buffers[(wire + 1) % 2]])
         });
         with_orders(lent(pools, stages.collect()), 3)
     })
@@ -57,10 +58,11 @@ fn each_kind_once() -> impl Iterator<Item = Group> {
     pools.enumerate().map(|(turn, pools)| {
         let buffers = [internal(0), internal(1), external(0)];
         let stages = each_kind(turn).into_iter().enumerate().map(|(number, kind)| {
-            let [input, other, output] = [number, number / 3, number + turn].map(|place| buffers[place % 3]);
-            let mut stage = stage(&kind, &[input, other], output);
+            let places = [number, number / 3, number + turn, number + turn + 1];
+            let [input, other, output, right] = places.map(|place| buffers[place % 3]);
+            let mut stage = stage(&kind, &[input, other], &[output, right]);
             match (turn, number % 3) {
-                (1, 1) => stage.output = external(1),
+                (1, 1) => stage.outputs[0] = external(1),
                 (2, 2) => stage.parameters[0] = Parameter::Slot(0),
                 _ => (),
             }

@@ -36,8 +36,9 @@ fn of_kind(kind: Kind, values: usize) -> impl Iterator<Item = Group> {
             choice /= choices.len();
             parameter
         });
-        let stage = Stage { parameters: parameters.collect(), ..stage(&kind, &[internal(0); 2], internal(1)) };
-        let mut lent = lent(good_pools([2, 0], [2, 0]), vec![stage]);
+        let stage =
+            Stage { parameters: parameters.collect(), ..stage(&kind, &[internal(0); 2], &[internal(1), internal(2)]) };
+        let mut lent = lent(good_pools([3, 0], [2, 0]), vec![stage]);
         lent.values = vec![0.25; values];
         let windows = [0, 2].map(|n| Window { values: vec![0.75; values], ..window(true, n, &[0]) });
         Group { lent, windows: windows.to_vec() }

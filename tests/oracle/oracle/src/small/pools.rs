@@ -82,8 +82,8 @@ fn group(mut pools: Pools, (of_pools, of_rings, first, stale): Faults) -> Group 
     pools.marks.0 = [[stale; 16]; 2];
     let (reads_external, parameter) = FIRST_STAGES[first].clone();
     let input = if reads_external { external(0) } else { internal(0) };
-    let first = Stage { parameters: vec![parameter], ..stage(&Kind::Pow3, &[input], internal(0)) };
-    let second = stage(&string(2), &[external(1)], internal(1));
+    let first = Stage { parameters: vec![parameter], ..stage(&Kind::Pow3, &[input], &[internal(0)]) };
+    let second = stage(&string(2), &[external(1)], &[internal(1)]);
     let mut lent = lent(pools, vec![first, second]);
     OF_RINGS[of_rings](&mut lent);
     Group { lent, windows: windows(of_pools == 0) }

@@ -17,18 +17,18 @@ pub fn groups() -> impl Iterator<Item = Group> {
     pools.enumerate().flat_map(|(turn, pools)| {
         let stages = each_kind(turn)
             .into_iter()
-            .flat_map(|kind| wirings(kind.inputs()).map(move |wiring| (kind.clone(), wiring)));
+            .flat_map(|kind| wirings(kind.outputs() + kind.inputs()).map(move |wiring| (kind.clone(), wiring)));
         stages.map(move |(kind, wiring)| Group {
-            lent: lent(pools.clone(), vec![stage(&kind, &wiring[1..], wiring[0])]),
+            lent: lent(pools.clone(), vec![stage(&kind, &wiring[kind.outputs()..], &wiring)]),
             windows: (0..3).map(|n| window(false, n, &[0])).collect(),
         })
     })
 }
 
-/// Every output with every choice of inputs, among three internal and three external buffers.
-fn wirings(inputs: usize) -> impl Iterator<Item = [Buffer; 3]> {
+/// Every choice of so many outputs and inputs, among three internal and three external buffers.
+pub fn wirings(count: usize) -> impl Iterator<Item = [Buffer; 3]> {
     const BUFFERS: usize = 6;
     let named = |place: usize| if place < 3 { internal(place as u64) } else { external(place as u64 - 3) };
-    let choices = BUFFERS.pow(1 + inputs as u32);
+    let choices = BUFFERS.pow(count as u32);
     (0..choices).map(move |choice| [1, BUFFERS, BUFFERS * BUFFERS].map(|step| named(choice / step % BUFFERS)))
 }
