@@ -1,14 +1,14 @@
 /* One window of a sawtooth through the static library, as the program `rendersaw` renders it: frequency 1, eight samples of an eighth of a
- * second, into internal buffer 0. Then a stage of an unknown kind, which is refused. Last a ring's cursor, which is lent and changed where it
- * stands, or refused and left as it was. */
+ * second, into internal buffer 0. Then a stage of an unknown kind, which is refused. Then a ring's cursor, which is lent and changed where it
+ * stands, or refused and left as it was. Last a sound that is placed between left and right, or refused. */
 #include "grynnadot.h"
 
 #include <stdio.h>
 #include <string.h>
 
 /* As large as the library takes them. */
-_Static_assert(sizeof(grynnadot_patch) == 4872, "patch");
-_Static_assert(sizeof(grynnadot_read) == 4888, "read");
+_Static_assert(sizeof(grynnadot_patch) == 5128, "patch");
+_Static_assert(sizeof(grynnadot_read) == 5144, "read");
 _Static_assert(sizeof(grynnadot_pools) == 72, "pools");
 _Static_assert(sizeof(grynnadot_states) == 2816, "states");
 _Static_assert(sizeof(grynnadot_ran) == 2912, "ran");
@@ -16,11 +16,12 @@ _Static_assert(sizeof(grynnadot_cursor) == 8, "cursor");
 
 enum { WINDOW = 8 };
 
-static double internal[WINDOW];
+static double internal[2 * WINDOW];
+static double external[WINDOW];
 static const double zeros[WINDOW];
+static const uint8_t order[] = {0};
 
 static grynnadot_ran render(grynnadot_patch patch) {
-    static const uint8_t order[] = {0};
     grynnadot_pools pools = {.internal = grynnadot_new_pool(1, WINDOW, internal, WINDOW).pool};
     pools = grynnadot_prepare(pools, internal, WINDOW, NULL, 0, zeros, WINDOW, WINDOW).pools;
     return grynnadot_run(patch, order, 1, pools, grynnadot_new_states(), WINDOW, 0.125, internal, WINDOW, NULL, 0, zeros, WINDOW, NULL, 0,
@@ -44,6 +45,67 @@ static bool refusals_leave_the_cursor(void) {
            advances(7, 32769, 4, 7);
 }
 
+/* A run of Pan by these outputs and levels: of internal 0, which has 1 to 8, with the gains 2 and 3. Internal 1 is stale, external 0 has 100
+ * throughout. */
+static grynnadot_ran pan(size_t left, size_t right, grynnadot_parameter left_level, grynnadot_parameter right_level, size_t n) {
+    for (int i = 0; i < WINDOW; i++) {
+        internal[i] = i + 1;
+        external[i] = 100;
+    }
+    grynnadot_patch patch = {.count = 1};
+    patch.stages[0] = (grynnadot_stage){
+        .kind = GRYNNADOT_PAN,
+        .output = left,
+        .second_output = right,
+        .out_level = left_level,
+        .first = right_level,
+        .second = {.mark = GRYNNADOT_NUMBER, .number = 2.0},
+        .third = {.mark = GRYNNADOT_NUMBER, .number = 3.0},
+    };
+    const grynnadot_pools pools = {
+        .internal = {.count = 2, .capacity = WINDOW, .stale = {[1] = true}},
+        .external = {.count = 1, .capacity = WINDOW},
+    };
+    return grynnadot_run(patch, order, 1, pools, grynnadot_new_states(), n, 0.125, internal, 2 * WINDOW, external, WINDOW, zeros, WINDOW,
+                         NULL, 0, NULL, 0);
+}
+
+static const grynnadot_parameter absent = {.mark = GRYNNADOT_ABSENT};
+static const grynnadot_parameter quarter = {.mark = GRYNNADOT_NUMBER, .number = 0.25};
+static const grynnadot_parameter half = {.mark = GRYNNADOT_NUMBER, .number = 0.5};
+
+/* Whether Pan, by these levels, stores left_times the sound in internal 1 and adds right_times the sound to external 0. */
+static bool placed(grynnadot_parameter left_level, grynnadot_parameter right_level, double left_times, double right_times) {
+    const grynnadot_ran ran = pan(2, 1, left_level, right_level, WINDOW);
+    bool heard = ran.answer.number == 0 && ran.answer.stage == 32 && ran.answer.activity == 2 && !ran.pools.internal.stale[1];
+    for (int i = 0; i < WINDOW; i++) {
+        heard = heard && internal[WINDOW + i] == (i + 1) * left_times && external[i] == 100 + (i + 1) * right_times;
+    }
+    return heard;
+}
+
+static bool sound_is_placed(void) {
+    return placed(absent, absent, 2.0, 3.0) && placed(quarter, half, 0.5, 1.5);
+}
+
+/* Whether Pan is refused with that number, and leaves the mark of internal 1 and the samples of external 0. */
+static bool refused_with(size_t number, size_t left, size_t right, grynnadot_parameter left_level, size_t n) {
+    const grynnadot_ran ran = pan(left, right, left_level, half, n);
+    bool untouched = ran.answer.number == number && ran.answer.stage == 0 && ran.answer.activity == 0 && ran.pools.internal.stale[1];
+    for (int i = 0; i < WINDOW; i++) {
+        untouched = untouched && external[i] == 100;
+    }
+    return untouched;
+}
+
+/* The same buffer twice, also in an empty window; one that is not there before that, and one level alone after it; last either output as
+ * the input, which is not stale. */
+static bool pan_is_refused(void) {
+    return refused_with(8, 2, 2, half, WINDOW) && refused_with(8, 1, 1, half, 0) && refused_with(5, 4, 4, half, WINDOW) &&
+           refused_with(8, 2, 2, absent, WINDOW) && refused_with(6, 2, 1, absent, WINDOW) && refused_with(7, 0, 1, half, WINDOW) &&
+           refused_with(7, 1, 0, half, WINDOW);
+}
+
 int main(void) {
     grynnadot_patch patch = {.count = 1};
     patch.stages[0] = (grynnadot_stage){
@@ -61,10 +123,13 @@ int main(void) {
         memcpy(&bits, &internal[i], sizeof bits);
         printf("%016llx\n", (unsigned long long)bits);
     }
-    patch.stages[0].kind = GRYNNADOT_RING_MODULATOR + 1;
+    patch.stages[0].kind = GRYNNADOT_PAN + 1;
     const grynnadot_ran refused = render(patch);
     if (refused.answer.number != 22 || refused.answer.stage != 0 || !refused.pools.internal.stale[0]) {
         return 2;
     }
-    return cursor_advances() && refusals_leave_the_cursor() ? 0 : 3;
+    if (!cursor_advances() || !refusals_leave_the_cursor()) {
+        return 3;
+    }
+    return sound_is_placed() && pan_is_refused() ? 0 : 4;
 }

@@ -1,19 +1,23 @@
 /* patch_file FILE SECONDS [SLOT=FIRST..LAST ...]
  *
  * Renders a patch file with the static library: all stages in file order, in windows of 512 samples at 44,100 samples a second, with 8
- * internal buffers and 1 external one; an hour at the most. Each slot that is named moves from its first value to its last, one value to a
+ * internal buffers and 2 external ones; an hour at the most. Each slot that is named moves from its first value to its last, one value to a
  * window. External buffer 0, or internal buffer 0 where no stage has an external output, goes to standard output, each sample as the eight
- * bytes of an f64, low byte first. What is refused is told on standard error, and the status is then 1. */
+ * bytes of an f64, low byte first. Where a stage writes external buffer 1, there are two channels: external buffers 0 and 1, left and right,
+ * sample by sample. What is refused is told on standard error, and the status is then 1. */
 #include "grynnadot.h"
 
 #include <stdio.h>
 #include <stdlib.h>
 #include <string.h>
 
-enum { RATE = 44100, WINDOW = 512, BUFFERS = 8, SLOTS = 64, STAGES = 32, RING = 32768 };
+enum { RATE = 44100, WINDOW = 512, BUFFERS = 8, CHANNELS = 2, SLOTS = 64, STAGES = 32, RING = 32768 };
+
+/* External buffers 0 and 1 by their numbers. */
+enum { LEFT = 1, RIGHT = 3 };
 
 static double internal[BUFFERS * WINDOW];
-static double external[WINDOW];
+static double external[CHANNELS * WINDOW];
 static const double zeros[WINDOW];
 static double rings[STAGES * RING];
 
@@ -66,28 +70,41 @@ static size_t rings_count(const grynnadot_patch *patch) {
     return count < STAGES * RING ? count : STAGES * RING;
 }
 
-/* The first n samples of the buffer that is heard. */
-static const double *heard(const engine *engine) {
-    for (size_t k = 0; k < engine->patch.count; k++) {
-        if (engine->patch.stages[k].output % 2 == 1) {
-            return engine->pools.external.stale[0] ? zeros : external;
+static bool writes(const grynnadot_patch *patch, size_t buffer) {
+    for (size_t k = 0; k < patch->count; k++) {
+        const grynnadot_stage *stage = &patch->stages[k];
+        if (stage->output == buffer || (stage->kind == GRYNNADOT_PAN && stage->second_output == buffer)) {
+            return true;
         }
     }
-    return engine->pools.internal.stale[0] ? zeros : internal;
+    return false;
 }
 
-/* A window of n samples; the external buffer has no outer engine, and so the host marks it stale. */
+/* Puts what is heard of a window into `sound`, and answers how many samples that are: of two channels twice n. */
+static size_t heard(const engine *engine, size_t n, double *sound) {
+    const size_t channels = writes(&engine->patch, RIGHT) ? 2 : 1;
+    const bool outside = channels == 2 || writes(&engine->patch, LEFT);
+    const grynnadot_pool *pool = outside ? &engine->pools.external : &engine->pools.internal;
+    const double *samples = outside ? external : internal;
+    for (size_t k = 0; k < channels * n; k++) {
+        const size_t channel = k % channels;
+        sound[k] = pool->stale[channel] ? 0.0 : samples[channel * WINDOW + k / channels];
+    }
+    return channels * n;
+}
+
+/* A window of n samples; the external buffers have no outer engine, and so the host marks them stale. */
 static grynnadot_answer render(engine *engine, const double *values, size_t values_count, size_t n) {
     uint8_t order[STAGES];
     for (uint8_t k = 0; k < STAGES; k++) {
         order[k] = k;
     }
-    engine->pools.external.stale[0] = true;
+    engine->pools.external.stale[0] = engine->pools.external.stale[1] = true;
     const grynnadot_pools pools =
-        grynnadot_prepare(engine->pools, internal, BUFFERS * WINDOW, external, WINDOW, zeros, WINDOW, n).pools;
+        grynnadot_prepare(engine->pools, internal, BUFFERS * WINDOW, external, CHANNELS * WINDOW, zeros, WINDOW, n).pools;
     const grynnadot_ran ran =
         grynnadot_run(engine->patch, order, engine->patch.count, pools, engine->states, n, 1.0 / RATE, internal, BUFFERS * WINDOW, external,
-                      WINDOW, zeros, WINDOW, rings, rings_count(&engine->patch), values, values_count);
+                      CHANNELS * WINDOW, zeros, WINDOW, rings, rings_count(&engine->patch), values, values_count);
     engine->pools = ran.pools;
     engine->states = ran.states;
     return ran.answer;
@@ -105,7 +122,9 @@ static int render_all(engine *engine, const movement *moved, size_t samples) {
             fprintf(stderr, "run refused: %zu, stage %zu\n", answer.number, answer.stage);
             return 1;
         }
-        if (fwrite(heard(engine), sizeof(double), n, stdout) != n) {
+        double sound[CHANNELS * WINDOW];
+        const size_t count = heard(engine, n, sound);
+        if (fwrite(sound, sizeof(double), count, stdout) != count) {
             perror("standard output");
             return 1;
         }
@@ -131,6 +150,6 @@ int main(int words, char **word) {
     }
     engine engine = {.patch = read.patch, .states = grynnadot_new_states()};
     engine.pools.internal = grynnadot_new_pool(BUFFERS, WINDOW, internal, BUFFERS * WINDOW).pool;
-    engine.pools.external = grynnadot_new_pool(1, WINDOW, external, WINDOW).pool;
+    engine.pools.external = grynnadot_new_pool(CHANNELS, WINDOW, external, CHANNELS * WINDOW).pool;
     return render_all(&engine, &moved, (size_t)(seconds * RATE));
 }

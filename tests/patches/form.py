@@ -1,4 +1,4 @@
-"""A patch file's bytes, written from document 02, request One: what a stage of each kind has in reading order, and the bytes both ways.
+"""A patch file's bytes, written from document 02, requests One and Two: what a stage of each kind has in reading order, and its bytes.
 
 A stage is its kind's name and a value to each of its fields. A value is a whole number; that of a parameter is its mark and what follows the
 mark: nothing, the bits of an f64, or a slot. A buffer is twice its index, plus one if external."""
@@ -18,7 +18,11 @@ MODULATION = Choice('modulation', ('ByPhase', 'ByFrequency'))
 REFLECTANCE = Choice('reflectance', ('Positive', 'Negative'))
 SIZE = Number('buffer_size')
 
-# by number: the kind's name, what stands before its inputs, how many those are, and its parameters behind out_level
+# outputs and their levels: of every kind but Pan, and of Pan
+ONE = ['output'], ['out_level']
+PAIR = ['left_output', 'right_output'], ['left_level', 'right_level']
+
+# by number: the kind's name, what stands before its inputs, how many those are, and its parameters behind the levels
 KINDS = [
     ('Pass', [], 1, ''),
     ('Pow3', [], 1, ''),
@@ -34,6 +38,7 @@ KINDS = [
     ('ModulatedOscillator', [WAVEFORM, MODULATION], 1, 'frequency phase'),
     ('Waveguide', [REFLECTANCE, SIZE], 1, 'frequency cutoff feedback'),
     ('RingModulator', [], 2, ''),
+    ('Pan', [], 1, 'left_gain right_gain'),
 ]
 NAMES = [name for name, *_ in KINDS]
 
@@ -41,7 +46,8 @@ NAMES = [name for name, *_ in KINDS]
 def fields(name):
     """What a stage of that kind has behind its kind, in reading order."""
     _, first, inputs, parameters = KINDS[NAMES.index(name)]
-    return [*first, *[Buffer('input')] * inputs, Buffer('output'), *map(Parameter, ['out_level', *parameters.split()])]
+    outputs, levels = PAIR if name == 'Pan' else ONE
+    return [*first, *[Buffer('input')] * inputs, *map(Buffer, outputs), *map(Parameter, [*levels, *parameters.split()])]
 
 
 def number_bytes(number):
