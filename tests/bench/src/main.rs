@@ -33,15 +33,16 @@ struct Case {
     magnitude: f64,
 }
 
-/// Eight stages of a kind, each from an external buffer into an internal one.
+/// Eight stages of a kind, each from an external buffer into an internal one, or into two.
 fn eight(kind: Kind) -> Vec<Stage> {
-    let stage = |k: usize| Stage { kind, k, inputs: [2 * k + 1, 2 * ((k + 1) % EXTERNAL) + 1], output: 2 * k };
+    let inputs = |k: usize| [2 * k + 1, 2 * ((k + 1) % EXTERNAL) + 1];
+    let stage = |k: usize| Stage { kind, k, inputs: inputs(k), outputs: [2 * k, 2 * (8 + k)] };
     (0..8).map(stage).collect()
 }
 
 /// Eight waveguides, and a LowPass2 after each.
 fn strings() -> Vec<Stage> {
-    let filter = |k: usize| Stage { kind: LOW_PASS_2, k, inputs: [2 * k, 0], output: 2 * (8 + k) };
+    let filter = |k: usize| Stage { kind: LOW_PASS_2, k, inputs: [2 * k, 0], outputs: [2 * (8 + k), 0] };
     eight(WAVEGUIDE).into_iter().chain((0..8).map(filter)).collect()
 }
 
@@ -75,14 +76,14 @@ impl Case {
         (Engine::new(&self.stages, self.magnitude, n), Rust::new(&self.stages, self.magnitude, n))
     }
 
-    /// A line of a table.
+    /// A line of a table. What a stage with two outputs takes is divided by both, so that each compares with a stage of one.
     fn measure(&self, budget: Duration) {
         print!("| {} |", self.name);
         for n in WINDOWS {
             let (mut engine, mut rust) = self.sides(n);
             let works: [&mut dyn FnMut(); 2] = [&mut || _ = black_box(engine.run()), &mut || _ = black_box(rust.run())];
             let [ours, theirs] = time::fastest(budget, works);
-            let each = (n * self.stages.len()) as f64;
+            let each = (n * self.stages.iter().map(|stage| stage.kind.outputs()).sum::<usize>()) as f64;
             print!(" {:.2} | {:.2} | **{:.2}** |", ours / each, theirs / each, ours / theirs);
         }
         println!();
@@ -171,7 +172,7 @@ fn main() {
     println!("\nSame bits and activities over 40,000 samples at windows of 1, 2, 3, 7, 37, 64, 512 and 4,096.");
     table("Eight waveguides and eight LowPass2 (ns per sample and stage)", "patch");
     patches.iter().for_each(|case| case.measure(budget * 4));
-    table("Each kind by itself, eight stages in a run (ns per sample and stage)", "kind");
+    table("Each kind by itself, eight stages in a run (ns per sample and output)", "kind");
     kinds.iter().for_each(|case| case.measure(budget));
     if what == "all" {
         fixed(budget);

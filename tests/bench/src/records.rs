@@ -20,6 +20,7 @@ pub struct FlatStage {
     pub first_input: usize,
     pub second_input: usize,
     pub output: usize,
+    pub second_output: usize,
     pub out_level: FlatParameter,
     pub first: FlatParameter,
     pub second: FlatParameter,

@@ -64,12 +64,15 @@ const RESONANCE: usize = 3;
 const QUALITY: usize = 4;
 const PHASE: usize = 5;
 const LIMIT: usize = 6;
+const RIGHT_LEVEL: usize = 7;
+const LEFT_GAIN: usize = 8;
+const RIGHT_GAIN: usize = 9;
 /// The first of eight frequencies: each stage has one of its own.
-const FREQUENCY: usize = 8;
+const FREQUENCY: usize = 10;
 
 /// The lent values, by slot.
 pub fn values() -> Vec<f64> {
-    let mut values = vec![0.7, 5_000.0, 0.98, 1_500.0, 2.0, 0.25, 0.5, 0.0];
+    let mut values = vec![0.7, 5_000.0, 0.98, 1_500.0, 2.0, 0.25, 0.5, 0.9, 0.8, 0.6];
     values.extend((0..8).map(|k| 82.4 * 1.26_f64.powi(k)));
     values
 }
@@ -81,8 +84,14 @@ pub struct Kind {
     pub number: usize,
     pub choice: usize,
     pub modulation: usize,
-    /// The slots of its parameters; `FREQUENCY` stands for the stage's own.
+    /// The slots of its parameters behind the first level; `FREQUENCY` stands for the stage's own.
     slots: &'static [usize],
+}
+
+impl Kind {
+    pub fn outputs(&self) -> usize {
+        if self.number == PAN { 2 } else { 1 }
+    }
 }
 
 const fn kind(name: &'static str, number: usize, choice: usize, modulation: usize, slots: &'static [usize]) -> Kind {
@@ -92,7 +101,9 @@ const fn kind(name: &'static str, number: usize, choice: usize, modulation: usiz
 pub const WAVEGUIDE: Kind = kind("Waveguide", 12, 0, 0, &[FREQUENCY, CUTOFF, FEEDBACK]);
 pub const LOW_PASS_2: Kind = kind("LowPass2", 4, 0, 0, &[RESONANCE, QUALITY]);
 
-pub const KINDS: [Kind; 22] = [
+const PAN: usize = 14;
+
+pub const KINDS: [Kind; 23] = [
     WAVEGUIDE,
     kind("Waveguide Negative", 12, 1, 0, &[FREQUENCY, CUTOFF, FEEDBACK]),
     LOW_PASS_2,
@@ -115,6 +126,7 @@ pub const KINDS: [Kind; 22] = [
     kind("Pow3", 1, 0, 0, &[]),
     kind("Clip", 2, 0, 0, &[LIMIT]),
     kind("RingModulator", 13, 0, 0, &[]),
+    kind("Pan", PAN, 0, 0, &[RIGHT_LEVEL, LEFT_GAIN, RIGHT_GAIN]),
 ];
 
 /// A stage that is the k-th of its kind. A buffer is twice its index, plus one if external.
@@ -122,7 +134,7 @@ pub struct Stage {
     pub kind: Kind,
     pub k: usize,
     pub inputs: [usize; 2],
-    pub output: usize,
+    pub outputs: [usize; 2],
 }
 
 impl Stage {
@@ -143,7 +155,8 @@ impl Stage {
             buffer_size: BUFFER_SIZE,
             first_input: self.inputs[0],
             second_input: self.inputs[1],
-            output: self.output,
+            output: self.outputs[0],
+            second_output: self.outputs[1],
             out_level: FlatParameter { mark: 2, slot: LEVEL, number: 0.0 },
             first: parameter(0),
             second: parameter(1),
@@ -154,12 +167,22 @@ impl Stage {
     pub fn rust(&self) -> RustStage {
         let factory = &mut AutomationFactory::new(());
         let [first, second] = self.inputs.map(buffer);
-        let (output, level) = (buffer(self.output), Some(&Slot(LEVEL)));
+        let (output, level) = (buffer(self.outputs[0]), Some(&Slot(LEVEL)));
         match self.kind.number {
             10 => GeneratorType::Oscillator(self.oscillator()).create(factory, output, level),
             13 => MergeProcessorType::RingModulator.create(factory, (first, second), output, level),
+            PAN => self.pan(factory),
             _ => self.processor().create(factory, first, output, level),
         }
+    }
+
+    /// The Rust has no such stage, but it has the rule by which one writes.
+    fn pan(&self, factory: &mut AutomationFactory<Slot>) -> RustStage {
+        let (input, [left, right]) = (buffer(self.inputs[0]), self.outputs.map(buffer));
+        let parameters = (Some((Slot(LEVEL), self.slot(0))), self.slot(1), self.slot(2));
+        factory.automate(parameters).into_stage(move |buffers, (levels, left_gain, right_gain)| {
+            buffers.read_1_write_2(input, (left, right), levels, |s| (s * left_gain, s * right_gain))
+        })
     }
 
     fn oscillator(&self) -> OscillatorSpec<Slot> {
