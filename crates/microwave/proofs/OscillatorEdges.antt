@@ -1,11 +1,16 @@
 -- The edges of an oscillator that the requirements remark on, as theorems of its definition, over a window of any length. Assumes nothing.
 use mathlib.Core.Path.{_≡_, refl, ap, _∙_}
+use mathlib.Core.Bool.{true}
 use mathlib.Core.List.{List, [], _∷_, foldl}
-use lib.Ieee.{Float, nan, neg, add, rem, lt}
-use Rattle.numbers.specs.Constants.{one64}
+use Prim.Native.Nat.{ℕ, _<_}
+use lib.Dec.{T}
+use lib.Ieee.{Float, nan, binary64, ofBits, neg, add, mul, rem, round, lt, le, fits}
+use Rattle.numbers.specs.Constants.{zero64, one64}
 use Rattle.numbers.specs.Small.{remEuclidOf}
+use Rattle.numbers.specs.HalfTurns.{HalfTurns}
+use Rattle.numbers.proofs.HalfTurns.{at-half-turns, at-minus-zero}
 use Rattle.microwave.specs.Oscillator.{waveOf, phaseSaved, bentOf, oscillatorNext}
-use Rattle.microwave.specs.declared.oscillator.OscillatorType.the-variants.{Square}
+use Rattle.microwave.specs.declared.oscillator.OscillatorType.the-variants.{Sin, Sin3, Square}
 use Rattle.microwave.specs.declared.oscillator.Driven.{Driven}
 use Rattle.microwave.specs.declared.oscillator.Driven.the-variants.{Plain, ByPhase, ByFrequency}
 use Rattle.microwave.specs.declared.oscillator.Phases.{Phases}
@@ -19,6 +24,17 @@ after o p inputs = foldl (oscillatorNext o) p inputs
 pub square-of-nan : waveOf Square nan ≡ neg one64
 unfolding waveOf lt
 square-of-nan = refl
+
+-- 02, Three: "Make both +0.0, Sin3 included, and leave -0.0 at -0.0.": at every f64 that is a positive whole number of half turns, up to a whole turn
+pub half-turns : (x : Float) (k : ℕ) → T (fits binary64 x) → HalfTurns k x → 0 < k → le x one64 ≡ true → (waveOf Sin x ≡ zero64) × (waveOf Sin3 x ≡ zero64)
+unfolding waveOf
+half-turns x k t v positive h =
+    let zero = at-half-turns x k t v positive h in
+    (zero, rw zero (unfold mul ofBits round in refl))
+
+pub minus-zero : (waveOf Sin (neg zero64) ≡ neg zero64) × (waveOf Sin3 (neg zero64) ≡ neg zero64)
+unfolding waveOf
+minus-zero = (at-minus-zero, rw at-minus-zero (unfold mul neg ofBits round in refl))
 
 -- "A NaN phase stays."
 bent-nan : (d : Driven) (bend : Float) → bentOf d nan bend ≡ nan

@@ -35,11 +35,15 @@ minus-round s n d =
 
 -- ---- a sum of two fractions a / c and b / c, both whole numbers of the smallest value
 
+-- their difference is one too
+pub both-on-grid : (a b c : ℕ) → c ∣ a * 2 ^ 1074 → c ∣ b * 2 ^ 1074 → c ∣ (a - b) * 2 ^ 1074
+both-on-grid a b c A B = rw (mul-comm, mul-sub, mul-comm (2 ^ 1074) a, mul-comm (2 ^ 1074) b) (dvd-sub c A B)
+
 -- a difference that is not 0 gives no zero
 apart : (a b c : ℕ) → 0 < c → c ∣ a * 2 ^ 1074 → c ∣ b * 2 ^ 1074 → a < b → isMinusZero (round binary64 true (b - a) c) ≡ false
 apart a b c C A B h =
     minus-round true (b - a) c
-    ∙ zero-rounds (b - a) c C (rw (mul-comm, mul-sub, mul-comm (2 ^ 1074) b, mul-comm (2 ^ 1074) a) (dvd-sub c B A))
+    ∙ zero-rounds (b - a) c C (both-on-grid b a c B A)
     ∙ ne-eqb (b - a) 0 (λ q. omega arith)
 
 -- it is -0.0 where both are negative and neither has a magnitude
@@ -91,7 +95,7 @@ regroup true true p q = refl
 regroup true false true q = refl
 regroup true false false q = refl
 
-over-both : (v d c : ℕ) → d ∣ v * 2 ^ 1074 → d * c ∣ v * c * 2 ^ 1074
+pub over-both : (v d c : ℕ) → d ∣ v * 2 ^ 1074 → d * c ∣ v * c * 2 ^ 1074
 over-both v d c h = rw (mul-right-comm v c (2 ^ 1074)) (mul-dvd-mul-right d h c)
 
 finite-case : (s t : Bool) (m n : ℕ) (e d : ℤ) → T (fits binary64 (fin s m e)) → T (fits binary64 (fin t n d)) → isMinusZero (sub binary64 (fin s m e) (fin t n d)) ≡ (isMinusZero (fin s m e) && isPlusZero (fin t n d))

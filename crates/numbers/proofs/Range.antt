@@ -77,7 +77,7 @@ pub data BelowOne : Float → Type 0 where
   minus-none : (e : ℤ) → BelowOne (fin true 0 e)
   plus-part : (m : ℕ) (e : ℤ) → m * up e < down e → BelowOne (fin false m e)
 
-one-value : HasValue one64 false 1 1
+pub one-value : HasValue one64 false 1 1
 one-value = unfold ofBits in (refl, refl)
 
 under : {x : Float} → Within 1 x → lt x one64 ≡ true → BelowOne x

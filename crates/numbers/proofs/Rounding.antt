@@ -1,6 +1,7 @@
 -- What one rounding does: its sign is the one it is handed, a value that f64 holds stays, and of a whole number of f64's smallest values only 0 gives a zero.
 --     round-signed               a rounded number, given a sign, is the number rounded with that sign
 --     fitted, round-own          what f64 holds: how many digits, how deep and how large; and that it rounds to itself
+--     same-bits                  what f64 holds is one by its sign and its value
 --     unit-grid                  what f64 holds is a whole number of its smallest values, 2 ^ -1074
 --     round-zero, zero-rounds    of such numbers, 0 alone rounds to a zero
 -- Assumes nothing.
@@ -105,7 +106,7 @@ unit-grid s m e t =
     subst (λ (n : ℕ). down e ∣ n) (sym (j .1)) (dvd-mul-left (down e) (m * 2 ^ j .0))
 
 -- two that f64 holds and that have one sign and one value are one: they have the same bits
-same-bits : (x : Float) (s : Bool) (m : ℕ) (e : ℤ) → T (fits binary64 x) → T (fits binary64 (fin s m e)) → HasValue x s (m * up e) (down e) → x ≡ fin s m e
+pub same-bits : (x : Float) (s : Bool) (m : ℕ) (e : ℤ) → T (fits binary64 x) → T (fits binary64 (fin s m e)) → HasValue x s (m * up e) (down e) → x ≡ fin s m e
 unfolding toBits
 same-bits nan s m e p q v = absurd v
 same-bits (inf t) s m e p q v = absurd v

@@ -3,6 +3,7 @@ pub mod Constants
 pub mod Small
 pub mod Ceil
 pub mod Turns
+pub mod HalfTurns
 pub mod Zeros
 pub mod Outcome
 pub mod Inside

@@ -2,7 +2,7 @@
 use Prim.Native.Nat.{ℕ, zero, suc, _*_}
 use mathlib.Core.Bool.{Bool, false, not, cond}
 use mathlib.Core.List.{List, [], _∷_}
-use lib.Ieee.{Float, nan, binary64, add, sub, mul, neg, lt, le, round}
+use lib.Ieee.{Float, nan, binary64, add, sub, mul, neg, lt, eq, le, round}
 use Rattle.numbers.specs.Constants.{zero64, one64, half64, quarter64, three-quarters64, eighth64, tau64}
 
 -- "worked from the highest coefficient inward as c + u*(rest)"
@@ -51,9 +51,13 @@ unfoldable pub quarterSine : Float → Float
 quarterSine y =
     cond (le y eighth64) (sineSum (mul binary64 tau64 y)) (cosineSum (mul binary64 tau64 (sub binary64 quarter64 y)))
 
--- "from x = 0.5 the result is negated"
+-- negated, and +0.0 where s is zero
+unfoldable pub negatedOf : Float → Float
+negatedOf s = cond (eq s zero64) zero64 (neg s)
+
+-- "from x = 0.5 the result is negated"; by request Three of 02 it is +0.0 where the sum is zero, at 0.5 and at 1.0
 unfoldable pub turnSine : Float → Float
-turnSine x = cond (lt x half64) (quarterSine (reduced x)) (neg (quarterSine (reduced x)))
+turnSine x = cond (lt x half64) (quarterSine (reduced x)) (negatedOf (quarterSine (reduced x)))
 
 -- "x in [-0.0, 1]"; "A turn that is NaN or outside its range .. gives NaN."
 unfoldable pub sineOf : Float → Float

@@ -87,7 +87,8 @@ fn quarter_sine(y: f64) -> f64
     }
 }
 
-// The sine of x turns, x from -0.0 to 1; NaN for any other x.
+// The sine of x turns, x from -0.0 to 1; NaN for any other x. From half a turn on the sum is taken from 0.0 and not negated, which
+// differs where it is zero: 0.5 and 1.0 turns give +0.0.
 pub fn sine_turns(x: f64) -> f64
     ensures { λ r. ⌜ r ≡ sineOf x ⌝ }
 {
@@ -97,7 +98,7 @@ pub fn sine_turns(x: f64) -> f64
             if x < 0.5 {
                 return s;
             }
-            return -s;
+            return 0.0 - s;
         }
     }
     0.0 / 0.0

@@ -5,6 +5,8 @@ use mathlib.Core.Logic.{⊎-elim}
 use lib.Ieee.{nan, binary64, ofBits, div}
 use Rattle.numbers.specs.Constants.{zero64}
 use Rattle.numbers.specs.Turns.{sineOf, turnSine}
+use Rattle.numbers.proofs.Sign.{zero-less}
+use Rattle.numbers.proofs.turns.Sums.{quarter-fits}
 use Rattle.numbers.proofs.turns.sine_turns.Statement.{statement}
 use Rattle.numbers.proofs.turns.sine_turns.Tie as tie
 
@@ -20,7 +22,7 @@ returns c = simp (c .before .before .before .before .if1 .taken, c .before .befo
 
 returns-2 : tie.Need-returns-2
 unfolding sineOf turnSine
-returns-2 c = simp (c .before .before .before .before .if1 .taken, c .before .before .before .if2 .taken, c .if3 .left, c .before .quarter-sine .ensures, c .before .before .reduced-turn .ensures)
+returns-2 c = simp (c .before .before .before .before .if1 .taken, c .before .before .before .if2 .taken, c .if3 .left, c .before .quarter-sine .ensures, c .before .before .reduced-turn .ensures) (zero-less _ (quarter-fits _))
 
 returns-3 : tie.Need-returns-3
 unfolding sineOf
