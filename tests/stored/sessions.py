@@ -1,11 +1,13 @@
 """Sort 1: every kind with each of its choices, over several windows each, with its state carried from one to the next."""
 import itertools, random
-from words import INFINITY, NAN, SIGN, bits, number
+from words import INFINITY, NAN, SIGN, bits, near, number
 
 PLAIN, CLIP, FILTERS, OSCILLATOR, MODULATED, WAVEGUIDE, RING_MODULATOR, PAN = [0, 1], 2, range(3, 10), 10, 11, 12, 13, 14
 WAVEFORMS, MODULATIONS, REFLECTANCES = range(5), range(2), range(2)
-SECONDS, SLOT, ABSENT = [3], lambda k: [2, k], [0]
+SECONDS, SLOT, FIXED, ABSENT = [3], lambda k: [2, k], lambda x: [1, bits(x)], [0]
 ONE_POLES = (3, 5)
+# the waveforms Sin and Sin3; BandPass, Notch and AllPass, which alone reach half a turn
+SINES, UP_TO_HALF = range(2), range(7, 10)
 # external 0 and 1 are inputs, internal 0 is the output; internal 1 isn't there
 INPUT, OTHER, OUTPUT, NOWHERE = 1, 3, 0, 2
 # a Pan writes external 1 too, left or right, and adds there to what is set
@@ -114,3 +116,19 @@ def pans():
         yield from sessions(stage, PAN_PARAMETERS, False)
     for source, left, right in itertools.product((INPUT, OUTPUT), (ABSENT, SLOT(0)), (ABSENT, SLOT(1))):
         yield wired(source, left + right)
+
+
+def half_turns():
+    """Sin and Sin3 at 0.5, 1.0 and -0.0 turns and next to these, and filters at half a turn, over the shortest input that shows the sign of
+    the sine there, and over more; each stage runs by itself"""
+    oscillators = [[OSCILLATOR, waveform, OUTPUT, *ABSENT, *FIXED(frequency), *ABSENT]
+                   for waveform in SINES for frequency in (0.5, -1e-20, -1.0)]
+    oscillators += [[MODULATED, waveform, modulation, INPUT, OUTPUT, *ABSENT, *FIXED(0.0), *ABSENT]
+                    for waveform in SINES for modulation in MODULATIONS]
+    filters = [[kind, INPUT, OUTPUT, *ABSENT, *FIXED(0.5), *FIXED(1.0)] for kind in UP_TO_HALF]
+    # by phase, these are the turns; by frequency, the way leads over 0.5, 0.0, 1.0, 0.0 and -0.0 turns
+    turns = [*map(bits, (0.5, -0.5, -1e-20, -1.0, -1.0))] + near(0.5) + near(1.0) + near(0.0)
+    runs = [(stage, turns) for stage in range(len(oscillators))]
+    runs += [(stage, signal) for stage in range(len(oscillators), len(oscillators + filters)) for signal in ([SIGN, SIGN], turns)]
+    windows = [[3, len(signal), bits(1.0), 2, *signal, 0, 1, stage] for stage, signal in runs]
+    yield lent(oscillators + filters, len(turns), 0, 0) + [len(windows)] + sum(windows, [])

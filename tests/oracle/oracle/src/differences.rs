@@ -96,24 +96,25 @@ impl Difference {
     }
 }
 
-/// The differences in numbers: a case of the format, 01's answer, and what the platform's function gives. The oracle's Rust
-/// does not have them: it was given 01's functions.
+/// The differences in numbers: a case of the format, the answer of 01 or 02, and what the platform's function gives. The
+/// oracle's Rust does not have them: it was given these functions.
 fn show_numbers(program: &Program) -> Result<bool, Box<dyn Error>> {
-    let [zero, minus, turn] = [0.0, -0.0, 0.2].map(black_box);
+    let [zero, minus, turn, half] = [0.0, -0.0, 0.2, 0.5].map(black_box);
     let sine = f64::from_bits(0x3fee_6f0e_1344_5500);
     let numbers = [
         ("maximum(-0.0, 0.0)", words![2, 0, 1, minus, zero], -0.0, minus.max(zero)),
         ("minimum(0.0, -0.0)", words![2, 1, 1, zero, minus], 0.0, zero.min(minus)),
         ("sine of 0.2 turns", words![2, 11, 1, turn], sine, (TAU * turn).sin()),
+        ("sine of 0.5 turns", words![2, 11, 1, half], 0.0, (TAU * half).sin()),
     ];
     let mut as_listed = true;
     for (name, words, answer, platform) in numbers {
         let case = Case::of_words(&words).ok_or("a case that can't be read")?;
         as_listed &= answers(program, &case, &[answer.to_bits()])?;
         let [ours, theirs] = [answer, platform].map(f64::to_bits);
-        println!("{name}: 01 {ours:016x} ({answer:?}), the Rust here {theirs:016x} ({platform:?})");
+        println!("{name}: ours {ours:016x} ({answer:?}), the Rust here {theirs:016x} ({platform:?})");
     }
-    println!("a lent phase of 7, Sin: 01 NaN, the Rust can't be lent one");
+    println!("a lent phase of 7, Sin: ours NaN, the Rust can't be lent one");
     let nan = [0, NO_STAGE, 1, answer::bits(f64::NAN)];
     Ok(answers(program, &Case::Session(phase_of_seven()), &nan)? && as_listed)
 }

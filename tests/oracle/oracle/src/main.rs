@@ -6,6 +6,7 @@ mod compare;
 mod differences;
 mod families;
 mod files;
+mod half_turns;
 mod laid;
 mod lengths;
 mod listed;
@@ -55,6 +56,7 @@ oracle measure-sine
 oracle compare ASKED [--cases N] [--seed N] [--sort S]
 oracle differences ASKED [--inputs]
 oracle files ASKED
+oracle half-turns ASKED
 oracle refused ASKED [--sort S]
 oracle orders ASKED [--cases N] [--seed N] [--new-states]
 where ASKED is [--replay PROGRAM] [--start PROGRAM] [--failing FILE]";
@@ -88,6 +90,7 @@ fn run() -> Result<bool, Box<dyn Error>> {
         "compare" => compare(Options::new(words, &[&ASKED[..], &["cases", "seed", "sort"]].concat(), &[])?),
         "differences" => differences(Options::new(words, &ASKED, &["inputs"])?),
         "files" => files::run(&asked(&Options::new(words, &ASKED, &[])?)?),
+        "half-turns" => half_turns::run(&asked(&Options::new(words, &ASKED, &[])?)?.program),
         "orders" => orders(Options::new(words, &[&ASKED[..], &["cases", "seed"]].concat(), &["new-states"])?),
         "refused" => refused(Options::new(words, &[&ASKED[..], &["sort"]].concat(), &[])?),
         _ => Err(USAGE.into()),

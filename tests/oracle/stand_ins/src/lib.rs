@@ -9,5 +9,6 @@ pub use extremes::held;
 pub use extremes::maximum;
 pub use extremes::minimum;
 pub use turns::cosine_turns;
+pub use turns::folded_sine;
 pub use turns::sine_and_cosine_turns;
 pub use turns::sine_turns;

@@ -1,4 +1,4 @@
-//! "Sine of x turns" and "Cosine", each a fixed sequence of once-rounded operations.
+//! "Sine of x turns" and "Cosine", each a fixed sequence of once-rounded operations; the sine's zeros are those of document 02.
 
 use std::f64::consts::TAU;
 
@@ -38,8 +38,8 @@ fn cosine_sum(z: f64) -> f64 {
     horner(&COSINE, z * z)
 }
 
-/// The sine of `x` turns, x from -0.0 to 1; NaN for any other x.
-pub fn sine_turns(x: f64) -> f64 {
+/// The sine of `x` turns before its sign is looked at, x from -0.0 to 1; NaN for any other x.
+pub fn folded_sine(x: f64) -> f64 {
     if !(0.0..=1.0).contains(&x) {
         return f64::NAN;
     }
@@ -52,8 +52,15 @@ pub fn sine_turns(x: f64) -> f64 {
     } else {
         1.0 - x
     };
-    let sine = if y <= 0.125 { sine_sum(TAU * y) } else { cosine_sum(TAU * (0.25 - y)) };
-    if x < 0.5 { sine } else { -sine }
+    if y <= 0.125 { sine_sum(TAU * y) } else { cosine_sum(TAU * (0.25 - y)) }
+}
+
+/// The sine of `x` turns, x from -0.0 to 1; NaN for any other x. "From x = 0.5 the result is negated"; but at 0.5 and at 1.0,
+/// where it is zero, document 02's request Three wants "both +0.0, Sin3 included", and "-0.0 at -0.0" left. Adding 0.0 makes
+/// +0.0 of a zero and changes no other number.
+pub fn sine_turns(x: f64) -> f64 {
+    let sine = folded_sine(x);
+    if x < 0.5 { sine } else { -sine + 0.0 }
 }
 
 /// The cosine of `x` turns, x from -0.0 to 0.5; NaN for any other x.

@@ -1,5 +1,5 @@
 //! Document 01's sentences on functions that the standard library has, held against the standard library: the oracle keeps
-//! the library's own there. The stand-ins' sentences at their edges.
+//! the library's own there. The stand-ins' sentences at their edges, the sine's zeros as document 02's request Three has them.
 
 use stand_ins::cosine_turns;
 use stand_ins::held;
@@ -70,7 +70,7 @@ fn the_other_of_a_nan_and_the_first_of_equals() {
 fn quarter_turns() {
     let sines = [0.0, 0.25, 0.5, 0.75, 1.0].map(sine_turns);
     let cosines = [0.0, 0.25, 0.5].map(cosine_turns);
-    assert!(sines.into_iter().zip([0.0, 1.0, -0.0, -1.0, -0.0]).all(|(s, t)| same(s, t)), "{sines:?}");
+    assert!(sines.into_iter().zip([0.0, 1.0, 0.0, -1.0, 0.0]).all(|(s, t)| same(s, t)), "{sines:?}");
     assert!(cosines.into_iter().zip([1.0, 0.0, -1.0]).all(|(c, t)| same(c, t)), "{cosines:?}");
     assert!(same(sine_turns(-0.0), -0.0) && same(cosine_turns(-0.0), 1.0));
     assert!([-1e-300, 1.0000000000000002, 7.0, f64::NAN].into_iter().all(|x| sine_turns(x).is_nan()));
