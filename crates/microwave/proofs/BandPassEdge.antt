@@ -5,7 +5,7 @@ use lib.Ieee.{Float, nan, inf, fin, binary64, ofBits, neg, add, sub, mul, div, r
 use Rattle.numbers.specs.Constants.{zero64, half64, one64}
 use Rattle.numbers.specs.HalfTurns.{sineBefore}
 use Rattle.numbers.specs.Turns.{hornerFrom, hornerOf, coefficients, cosineCoefficients, cosineSum, sineOf, quarterCosine, cosineOf}
-use Rattle.numbers.proofs.HalfTurns.{at-half, before-at-half-turns}
+use Rattle.numbers.proofs.HalfTurns.{at-half-and-one, before-at-half-turns}
 use Rattle.microwave.specs.Arithmetic.{f64-arithmetic}
 use Rattle.microwave.specs.Biquads.{BandPass, alphaOf, coefficientsOf, outOf}
 
@@ -34,14 +34,10 @@ second s =
     outOf f64-arithmetic (coefficientsOf f64-arithmetic BandPass (cosineOf half64) (alphaOf f64-arithmetic s one64) one64)
     (record { y1 = zero64; y2 = zero64; x1 = neg one64; x2 = zero64 }) (neg one64)
 
-computed-now : second zero64 ≡ neg zero64
+computed : (second zero64 ≡ neg zero64) × (second (neg zero64) ≡ zero64)
 unfolding cosineOf quarterCosine cosineSum hornerOf hornerFrom cosineCoefficients coefficients ofBits le lt eq neg add sub mul div round
-computed-now = refl
-
-computed-before : second (neg zero64) ≡ zero64
-unfolding cosineOf quarterCosine cosineSum hornerOf hornerFrom cosineCoefficients coefficients ofBits le lt eq neg add sub mul div round
-computed-before = refl
+computed = (refl, refl)
 
 -- 02, Three: b0 is +0.0 where it was -0.0, and b2 the other way round, so that another zero can come out
 pub another-zero : (second (sineOf half64) ≡ neg zero64) × (second (sineBefore half64) ≡ zero64)
-another-zero = (rw at-half computed-now, rw (before-at-half-turns .0) computed-before)
+another-zero = (rw (at-half-and-one .0) (computed .0), rw (before-at-half-turns .0) (computed .1))

@@ -11,7 +11,7 @@ use native.Mathlib.Nat.{le-trans, le-of-eq, mul-pos, mul-le-mul, mul-mul-mul-com
 use borrow.Author.Tests.{leb-true, le-ltb}
 use lib.Dec.{T, ltb}
 use lib.IntN.{ℤ}
-use lib.Ieee.{Float, nan, inf, fin, binary64, up, down, round, sum, add, mul, neg, lt, eq, le, fits}
+use lib.Ieee.{Float, nan, inf, fin, binary64, unlike, up, down, round, sum, add, mul, neg, lt, eq, le, fits}
 use lib.Ieee.Bits.{is-true}
 use lib.Ieee.Exact.{HasValue}
 use lib.Ieee.Fits.{down-pos, round-fits}
@@ -85,18 +85,20 @@ factors : (l k v d l' k' v' d' : ℕ) → l * d ≤ v * k → l' * d' ≤ v' * k
 factors l k v d l' k' v' d' p q =
     le-trans (le-of-eq (mul-mul-mul-comm l l' d d')) (le-trans (mul-le-mul p q) (le-of-eq (mul-mul-mul-comm v k v' k')))
 
+sign-of-second : (s : Bool) → unlike false s ≡ s
+sign-of-second true = refl
+sign-of-second false = refl
+
 pub product : (s : Bool) {l k a b l' k' a' b' : ℕ} {x y : Float} → Between false l k a b x → Between s l' k' a' b' y
     → 0 < k * k' → 0 < b * b' → Held (l * l') (k * k') → Held (a * a') (b * b') → Between s (l * l') (k * k') (a * a') (b * b') (mul binary64 x y)
 unfolding mul
-product true {l} {k} {a} {b} {l'} {k'} {a'} {b'} (between m e t p q) (between n d t' p' q') K B v w =
-    rounded true (l * l') (k * k') (a * a') (b * b') (m * up e * (n * up d)) (down e * down d) K B (mul-pos (down-pos e) (down-pos d)) v w
-    (factors l k (m * up e) (down e) l' k' (n * up d) (down d) p p') (factors (m * up e) (down e) a b (n * up d) (down d) a' b' q q')
-product false {l} {k} {a} {b} {l'} {k'} {a'} {b'} (between m e t p q) (between n d t' p' q') K B v w =
-    rounded false (l * l') (k * k') (a * a') (b * b') (m * up e * (n * up d)) (down e * down d) K B (mul-pos (down-pos e) (down-pos d)) v w
-    (factors l k (m * up e) (down e) l' k' (n * up d) (down d) p p') (factors (m * up e) (down e) a b (n * up d) (down d) a' b' q q')
+product s {l} {k} {a} {b} {l'} {k'} {a'} {b'} (between m e t p q) (between n d t' p' q') K B v w =
+    subst (λ (r : Bool). Between s (l * l') (k * k') (a * a') (b * b') (round binary64 r (m * up e * (n * up d)) (down e * down d))) (sym (sign-of-second s))
+    (rounded s (l * l') (k * k') (a * a') (b * b') (m * up e * (n * up d)) (down e * down d) K B (mul-pos (down-pos e) (down-pos d)) v w
+    (factors l k (m * up e) (down e) l' k' (n * up d) (down d) p p') (factors (m * up e) (down e) a b (n * up d) (down d) a' b' q q'))
 
 -- ---- a smaller magnitude taken away; one of the same size too, where the sign is plus
-pub difference : (s : Bool) (a b c : ℕ) → b ≤ a → (s && ltb b a) ≡ s → sum binary64 s a (not s) b c ≡ round binary64 s (a - b) c
+difference : (s : Bool) (a b c : ℕ) → b ≤ a → (s && ltb b a) ≡ s → sum binary64 s a (not s) b c ≡ round binary64 s (a - b) c
 unfolding sum
 difference true a b c h e = rw (le-ltb a b h, e)
 difference false a b c h e = rw (le-ltb a b h)

@@ -36,13 +36,9 @@ is-one nan t v = absurd v
 is-one (inf s) t v = absurd v
 is-one (fin s m e) t v = same-bits (fin s m e) false 1 (pos 0) t (unfold fits in tt) (v .0, omega (arith, v .1))
 
-pub at-half : sineOf half64 ≡ zero64
+pub at-half-and-one : (sineOf half64 ≡ zero64) × (sineOf one64 ≡ zero64)
 unfolding sineOf turnSine reduced quarterSine sineSum hornerOf hornerFrom sineCoefficients coefficients negatedOf ofBits le lt eq neg sub add mul round
-at-half = refl
-
-at-one : sineOf one64 ≡ zero64
-unfolding sineOf turnSine reduced quarterSine sineSum hornerOf hornerFrom sineCoefficients coefficients negatedOf ofBits le lt eq neg sub add mul round
-at-one = refl
+at-half-and-one = (refl, refl)
 
 -- k / 2 is at most 1
 two-at-most : (x : Float) (k : ℕ) → HalfTurns k x → le x one64 ≡ true → k ≤ 2
@@ -58,8 +54,8 @@ at-half-turns x k t v positive h = go k v positive (two-at-most x k v h)
   where
     go : (k : ℕ) → HalfTurns k x → 0 < k → k ≤ 2 → sineOf x ≡ zero64
     go zero v p q = absurd (omega arith)
-    go (suc zero) v p q = ap sineOf (is-half x t v) ∙ at-half
-    go (suc (suc zero)) v p q = ap sineOf (is-one x t v) ∙ at-one
+    go (suc zero) v p q = ap sineOf (is-half x t v) ∙ at-half-and-one .0
+    go (suc (suc zero)) v p q = ap sineOf (is-one x t v) ∙ at-half-and-one .1
     go (suc (suc (suc k))) v p q = absurd (omega arith)
 
 pub at-minus-zero : sineOf (neg zero64) ≡ neg zero64
