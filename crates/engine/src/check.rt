@@ -44,23 +44,34 @@ fn stands_from(order: &[u8], from: usize, k: usize) -> bool
     false
 }
 
-// Check 3: each number is compared with all after it.
+// Check 3, in one walk that keeps a bit for each stage seen. A number of 32 or more has no bit: a run meets none, for check 1 comes
+// first, but the promise is for any count, and such a number is compared with all after it.
 fn order_ok(order: &[u8], count: usize) -> bool
     ensures { λ r. ⌜ r ≡ orderly count (now (order .entry)) ⌝ }
 {
     if 32 < order.len() {
         return false;
     }
+    let mut seen: u32 = 0;
     let mut j = 0;
     while j < order.len() {
         let k = order[j] as usize;
+        let next = j + 1;
         if count <= k {
             return false;
         }
-        if stands_from(order, j + 1, k) {
+        if k < 32 {
+            let bit = 1 << k;
+            let with_it = seen | bit;
+            let met = seen & bit;
+            if met != 0 {
+                return false;
+            }
+            seen = with_it;
+        } else if stands_from(order, next, k) {
             return false;
         }
-        j += 1;
+        j = next;
     }
     true
 }
