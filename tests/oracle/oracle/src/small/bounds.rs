@@ -22,7 +22,8 @@ const FAR: u64 = 1 << 32;
 
 pub fn groups() -> impl Iterator<Item = Group> {
     let pools = pools().into_iter().map(in_windows);
-    pools.chain(wirings()).chain(strings()).chain([31, 32, 33, u64::MAX].into_iter().map(patch))
+    let patches = [31, 32, 33, u64::MAX].into_iter().map(patch);
+    pools.chain(wirings()).chain(strings()).chain(patches).chain([31, 32].map(one_number_changed))
 }
 
 /// Every choice of two, which may be the same.
@@ -114,8 +115,25 @@ fn patch(stage_count: u64) -> Group {
     let orders = [0, 30, 31, 32, 33, 64].map(|length| all[..length].to_vec());
     let single = [30, 31, 32, 33, 255].map(|number| vec![number]);
     let windows = orders.into_iter().chain([twice]).chain(single).map(|order| window(false, 0, &order));
+    Group { lent: passes(stage_count), windows: windows.collect() }
+}
+
+/// An order that names each of so many stages once, with each number that a byte holds at each of its places: numbers that are
+/// there twice, at every two places, and numbers that aren't there, at every place.
+fn one_number_changed(stage_count: u64) -> Group {
+    let changed = |place: u64, number: u64| {
+        let mut order: Vec<u64> = (0..stage_count).collect();
+        order[place as usize] = number;
+        window(false, 0, &order)
+    };
+    let windows = (0..stage_count).flat_map(|place| (0..=255).map(move |number| changed(place, number)));
+    Group { lent: passes(stage_count), windows: windows.collect() }
+}
+
+/// A patch that claims to have so many stages, all of them alike.
+fn passes(stage_count: u64) -> Session {
     let stages = vec![stage(&Kind::Pass, &[internal(0)], &[internal(0)]); stage_count.min(32) as usize];
-    Group { lent: Session { stage_count, ..lent(good_pools([1, 0], [1, 0]), stages) }, windows: windows.collect() }
+    Session { stage_count, ..lent(good_pools([1, 0], [1, 0]), stages) }
 }
 
 #[cfg(test)]
@@ -153,5 +171,8 @@ mod tests {
     fn stages_and_orders() {
         let met = numbers([31, 32, 33].map(patch));
         assert_eq!(met, "000333303333 000033300333 111111111111");
+        let changed = numbers([31, 32].map(one_number_changed));
+        assert_eq!(changed.matches('0').count(), 31 + 32);
+        assert_eq!(changed.matches('3').count(), (31 + 32) * 255);
     }
 }
