@@ -1,0 +1,97 @@
+"""The engine as the benchmarks link it: the static library of crates/host, or the LLVM module that it is compiled from, compiled for
+this machine. Rests on rt and on the compiler of its kit."""
+import os, pathlib, platform, re, shutil, subprocess, sys
+
+KIT = pathlib.Path(os.environ.get('RATTLE_HOME') or pathlib.Path(shutil.which('rt') or sys.exit('rt is not on the path')).resolve().parents[1])
+MACHINE = platform.machine()
+CLANG = KIT / 'on' / MACHINE / 'toolchain/bin/clang'
+
+
+def do(*words, **more):
+    """Runs a command; what it says is shown where it fails."""
+    ran = subprocess.run([str(word) for word in words], text=True, stdout=subprocess.PIPE, stderr=subprocess.STDOUT, **more)
+    if ran.returncode:
+        sys.exit(f'{ran.stdout}\n{pathlib.Path(str(words[0])).name} failed')
+    return ran.stdout
+
+
+def processor():
+    said = do('lscpu', env={**os.environ, 'LC_ALL': 'C'})
+    return re.search(r'Model name:\s*(.*)', said)[1]
+
+
+def listening_kit(into):
+    """The kit by links, with a compiler that keeps what it is given and how it is called, and is the kit's own otherwise."""
+    kit = into / 'kit'
+    shutil.rmtree(kit, ignore_errors=True)
+    own = kit / 'on' / MACHINE
+    (own / 'toolchain/bin').mkdir(parents=True)
+    for folder, names in ((kit, set(os.listdir(KIT)) - {'on'}), (own, {'bin', 'logic-built', 'rlib'})):
+        for name in names:
+            (folder / name).symlink_to(KIT / folder.relative_to(kit) / name)
+    (own / 'toolchain/lib').symlink_to((KIT / 'toolchain/lib'))
+    for name in os.listdir(CLANG.parent):
+        (own / 'toolchain/bin' / name).symlink_to(CLANG.parent / name)
+    clang = own / 'toolchain/bin/clang'
+    clang.unlink()
+    clang.write_text(f'#!/bin/sh\ncp module.bc {into}/module.bc\nprintf "%s\\n" "$@" >{into}/options\nexec {CLANG} "$@"\n')
+    clang.chmod(0o755)
+    return kit
+
+
+def for_this_machine(text):
+    """A module for x86-64 as one for aarch64. There C passes a large record as a pointer to a copy of its own, where x86-64 has the
+    copy on the stack; and it returns one through a pointer apart from the parameters, where x86-64 has it before them."""
+    text = re.sub(r'(?m)^target (datalayout|triple) = .*\n', '', text)
+    text = text.replace(' "target-cpu"="x86-64"', '')
+    text = re.sub(r' byval\(\[\d+ x i8\]\) align 8', '', text)
+
+    def returns(function):
+        head, body = function[1], function[2]
+        return head.replace('noundef ptr @', 'void @').replace('(ptr noundef %a0', '(ptr noundef sret(i8) %a0') + re.sub(r'ret ptr .*', 'ret void', body)
+
+    return re.sub(r'(?ms)^(define noundef ptr @grynnadot_\w+\(ptr noundef %a0[^\n]*)(\n.*?^\})', returns, text)
+
+
+def module(root, into):
+    """The library's LLVM module as text for this machine, and the options that rt has it compiled with. rt proves first what has
+    changed, and writes the archive of that repository."""
+    into.mkdir(parents=True, exist_ok=True)
+    do('rt', 'staticlib', 'host', cwd=root, env={**os.environ, 'RATTLE_HOME': str(listening_kit(into))})
+    do(CLANG, '--target=x86_64-unknown-linux-gnu', '-S', '-emit-llvm', '-Xclang', '-disable-llvm-passes', '-x', 'ir', into / 'module.bc', '-o', into / 'module.ll')
+    text = (into / 'module.ll').read_text()
+    options = [word for word in (into / 'options').read_text().split('\n') if word.startswith(('-O', '-f')) and word != '-fintegrated-cc1']
+    return (text if MACHINE == 'x86_64' else for_this_machine(text)), options
+
+
+def compiled(text, options, made):
+    """An object file of a module's text."""
+    source = made.with_suffix('.ll')
+    source.write_text(text)
+    said = do(CLANG, f'--target={MACHINE}-unknown-linux-gnu', *options, '-Wno-override-module', '-c', '-x', 'ir', source, '-o', made)
+    if said:
+        sys.exit(f'{said}\nthe module is not one for {MACHINE}')
+
+
+def library(root, into):
+    """What to link, and what it is."""
+    if MACHINE == 'x86_64':
+        do('rt', 'staticlib', 'host', cwd=root)
+        return root / 'target/staticlib/libhost.a', 'target/staticlib/libhost.a, as `rt staticlib host` writes it'
+    if MACHINE != 'aarch64':
+        sys.exit(f'nothing is known of calls on {MACHINE}')
+    text, options = module(root, into)
+    compiled(text, options, into / 'host.o')
+    return into / 'host.o', (f'**not the archive**, which is for x86-64 alone: the LLVM module that it is compiled from, compiled for {MACHINE} '
+                             f'by the same compiler ({" ".join(options)})')
+
+
+def program(here, into, name, profile, linked):
+    """A benchmark of this folder, with what it is linked with."""
+    shutil.copy2(here / 'Cargo.toml', into)
+    shutil.copytree(here / 'src', into / 'src', dirs_exist_ok=True)
+    for source in (into / 'src').iterdir():
+        source.touch()  # cargo does not see that what is linked has changed
+    arguments = [word for path in linked for word in ('-C', f'link-arg={path}')]
+    do('cargo', 'rustc', '--bin', name, '--profile', profile, '--offline', '--quiet', '--target-dir', into / 'compiled', '--', *arguments, cwd=into)
+    return into / 'compiled' / profile / name
