@@ -5,6 +5,7 @@
 mod records;
 mod time;
 
+use std::collections::BTreeSet;
 use std::hint::black_box;
 use std::time::Duration;
 
@@ -112,7 +113,11 @@ fn compare(Case { name, order, passes }: &Case, lent: &Lent) {
     assert_eq!(after.0, if *passes { 0 } else { 3 }, "the run of {name}");
 }
 
-/// Does something with the stack so many bytes lower.
+/// The bytes of a line of the cache. The stack begins at one of four places in it, for it is kept at multiples of 16.
+const LINE: usize = 64;
+const PLACES: [fn(&mut dyn FnMut()); 4] = [lower::<16>, lower::<32>, lower::<48>, lower::<64>];
+
+/// Does something with the stack lower by so many bytes and some, the same for each.
 #[inline(never)]
 fn lower<const BYTES: usize>(work: &mut dyn FnMut()) {
     let room = [0_u8; BYTES];
@@ -121,18 +126,23 @@ fn lower<const BYTES: usize>(work: &mut dyn FnMut()) {
     black_box(&room);
 }
 
-/// The fastest of each from each place that the stack can have in a line of the cache. A run copies records on the stack, and from
-/// one place to another its time moves by some hundredths, of each engine in its own way.
+/// The fastest of each from each place of the stack. A run copies records there, and from one place to another its time moves by
+/// some hundredths, of each engine in its own way.
 fn fastest<const COUNT: usize>(budget: Duration, mut works: [&mut dyn FnMut(); COUNT]) -> [f64; COUNT] {
     let mut best = [f64::INFINITY; COUNT];
-    let places = [lower::<0>, lower::<16>, lower::<32>, lower::<48>];
-    for place in places {
-        place(&mut || {
+    let mut met = BTreeSet::new();
+    for place in PLACES {
+        let mut timed = || {
+            let here = 0_u8;
+            met.insert(black_box(&raw const here).addr() % LINE);
             let works = works.each_mut().map(|work| &mut **work as &mut dyn FnMut());
-            let times = time::fastest(budget / places.len() as u32, works);
+            let times = time::fastest(budget / PLACES.len() as u32, works);
             best.iter_mut().zip(times).for_each(|(best, time)| *best = best.min(time));
-        });
+        };
+        // Hidden from the compiler, which would put what is done into `lower`, and lay out the stack of both together.
+        place(black_box(&mut timed as &mut dyn FnMut()));
     }
+    assert_eq!(met.len(), PLACES.len(), "places that the stack had in a line of the cache: {met:?}");
     best
 }
 
