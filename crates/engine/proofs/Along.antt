@@ -12,7 +12,7 @@ use Prim.Native.Nat.{ℕ, zero, suc, _+_, _-_, _<_, _≤_}
 use native.Mathlib.Nat.{le-trans}
 use native.Mathlib.Omega.{arith}
 use lib.Dec.{ltb}
-use lib.ListN.{length, getD, set, take, drop, length-drop}
+use lib.ListN.{length, getD, set, take, drop, length-drop, length-set}
 use lib.Seq.{sets, length-sets, take-all, length-take-le}
 use lib.Ieee.{Float}
 use borrow.Author.Tests.{ltb-true}
@@ -31,17 +31,21 @@ use Rattle.magnetron.specs.declared.buffer.BufferIndex.{BufferIndex}
 use Rattle.magnetron.specs.declared.buffer.BufferIndex.the-variants.{External, Internal}
 use Rattle.magnetron.specs.declared.pool.Pools.{Pools}
 use Rattle.magnetron.proofs.Writes.{unseen}
+use Rattle.util.specs.declared.reach.Reach.{Reach}
 use Rattle.stages.specs.declared.state.State.{State}
+use Rattle.stages.specs.declared.reach.StageReach.{StageReach}
 use Rattle.stages.specs.declared.patch.Starts.{Starts}
 use Rattle.stages.specs.Stage.{Own, own, ringFine}
 use Rattle.stages.specs.Rings.{noState, lenIn, ringAt, fineIn}
+use Rattle.stages.specs.Reach.{stageReach, allWithin}
 use Rattle.stages.specs.Inside.{Bounded, startsOf}
 use Rattle.stages.proofs.EndToEnd.{fine-at, sum-step, starts-at, part-put}
 use Rattle.stages.proofs.Positions.{position-stays}
-use Rattle.engine.specs.Run.{Plan, World, stageAt, outsAt, shapeIn, ownOf, playedAt, putPlayed, staged, louder, fault, turned, faultOf}
+use Rattle.engine.specs.Run.{Plan, World, stageAt, outsAt, shapeIn, ownOf, playedAt, putPlayed, staged, louder, fault, turned, faultOf, toldOf, reaches}
 use Rattle.engine.specs.Inside.{worldWith, Admitted, Passed, Ready, Turned}
 use Rattle.engine.proofs.Lists.{next-of, rest, last}
 use Rattle.engine.proofs.Faults.{passed-named}
+use Rattle.engine.proofs.Told.{telling, told-all}
 
 -- ---- what a write leaves as it was
 
@@ -190,37 +194,46 @@ module _ {P : Plan} {k : ℕ} {ks : List ℕ} {w : World} (ok : Passed P (k ∷ 
 
 -- ---- the loop
 
-pub record Along (P : Plan) (ks : List ℕ) (w₀ w : World) (a : StageActivity) (j : ℕ) : Type 0 where
+pub record Along (P : Plan) (ks : List ℕ) (w₀ w : World) (a : StageActivity) (t : List StageReach) (j : ℕ) : Type 0 where
   pub still : Passed P (drop j ks) w
   pub world : runs (staged P) (drop j ks) w ≡ runs (staged P) ks w₀
   pub loud : runs (louder P) (drop j ks) a ≡ runs (louder P) ks Exhausted
+  pub told : runs (telling P) (drop j ks) t ≡ runs (telling P) ks (allWithin .stages)
+  pub long : length t ≡ 32
   pub internal : length (w .banks .internal .samples) ≡ length (w₀ .banks .internal .samples)
   pub external : length (w .banks .external .samples) ≡ length (w₀ .banks .external .samples)
   pub rings : length (w .rings) ≡ length (w₀ .rings)
 
 module _ {P : Plan} {ks : List ℕ} {w₀ : World} where
-  pub along-start : Passed P ks w₀ → Along P ks w₀ w₀ Exhausted 0
-  along-start ok = record { still = ok; world = refl; loud = refl; internal = refl; external = refl; rings = refl }
+  pub along-start : Passed P ks w₀ → Along P ks w₀ w₀ Exhausted (allWithin .stages) 0
+  along-start ok = record { still = ok; world = refl; loud = refl; told = refl; long = refl; internal = refl; external = refl; rings = refl }
 
-  module _ {w : World} {a : StageActivity} {j : ℕ} (v : Along P ks w₀ w a j) where
+  module _ {w : World} {a : StageActivity} {t : List StageReach} {j : ℕ} (v : Along P ks w₀ w a t j) where
     pub along-here : j < length ks → Passed P (getD ks j 0 ∷ drop (j + 1) ks) w
     along-here h = subst (λ (l : List ℕ). Passed P l w) (next-of ks j h) (v .still)
 
     pub stage-below : j < length ks → getD ks j 0 < 32
     stage-below h = omega (arith, stage-there (along-here h), v .still .admitted .few)
 
-    pub along-more : (w' : World) (a' : StageActivity) → j < length ks → w' ≡ staged P (getD ks j 0) w → a' ≡ runs louderBy (outsAt P (getD ks j 0)) a → Along P ks w₀ w' a' (j + 1)
+    pub along-more : (w' : World) (a' : StageActivity) (r : Reach) → j < length ks → w' ≡ staged P (getD ks j 0) w → a' ≡ runs louderBy (outsAt P (getD ks j 0)) a
+        → r ≡ toldOf (P .window) (P .values) (stageAt P (getD ks j 0)) → Along P ks w₀ w' a' (set t (getD ks j 0) (stageReach r)) (j + 1)
     unfolding staged putPlayed louder
-    along-more w' a' h e f =
-        rw (e, f)
+    along-more w' a' r h e f g =
+        rw (e, f, g)
         (record {
           still = passed-staged (along-here h);
           world = rest (λ (l : List ℕ). runs (staged P) l w) ks j (v .world) h;
           loud = rest (λ (l : List ℕ). runs (louder P) l a) ks j (v .loud) h;
+          told = rest (λ (l : List ℕ). runs (telling P) l t) ks j (v .told) h;
+          long = rw length-set (v .long);
           internal = writes-internal (shapeIn P) (pairs (outsAt P (getD ks j 0)) (playedAt P (getD ks j 0) w .outs)) (w .banks) ∙ v .internal;
           external = writes-external (shapeIn P) (pairs (outsAt P (getD ks j 0)) (playedAt P (getD ks j 0) w .outs)) (w .banks) ∙ v .external;
           rings = rw length-sets (v .rings);
         })
 
-    pub along-end : length ks ≤ j → (w ≡ runs (staged P) ks w₀) × (a ≡ runs (louder P) ks Exhausted)
-    along-end h = (last (λ (l : List ℕ). runs (staged P) l w) ks j (v .world) h, last (λ (l : List ℕ). runs (louder P) l a) ks j (v .loud) h)
+    pub along-end : length ks ≤ j → (w ≡ runs (staged P) ks w₀) × (a ≡ runs (louder P) ks Exhausted) × (t ≡ reaches P ks)
+    along-end h = (
+      last (λ (l : List ℕ). runs (staged P) l w) ks j (v .world) h,
+      last (λ (l : List ℕ). runs (louder P) l a) ks j (v .loud) h,
+      last (λ (l : List ℕ). runs (telling P) l t) ks j (v .told) h ∙ told-all P ks,
+    )

@@ -11,7 +11,7 @@ use Rattle.order.specs.Order.{runs}
 use Rattle.order.specs.Checks.{passed}
 use Rattle.answers.specs.declared.verdict.Verdict.{Verdict}
 use Rattle.answers.specs.declared.activity.StageActivity.the-variants.{Exhausted}
-use Rattle.engine.specs.Run.{Plan, World, refused, done, staged, louder, judged, ended, rendered, afterBy}
+use Rattle.engine.specs.Run.{Plan, World, refused, done, staged, louder, reaches, judged, ended, rendered, afterBy}
 use Rattle.engine.specs.Inside.{returned}
 
 is-some : (o : Option Verdict) (v : Verdict) → v ≡ returned o → v .number ≢ 0 → o ≡ some v
@@ -27,6 +27,6 @@ module _ (P : Plan) (zeros : List Float) (ks : List ℕ) (w : World) where
   unfolding rendered ended
   after-refused v e h = sym (ap (λ (o : Option Verdict). afterBy P w (ended P ks w o)) (is-some (judged P zeros ks w) v e h))
 
-  pub after-done : passed (judged P zeros ks w) ≡ true → afterBy P w (done (runs (louder P) ks Exhausted) (runs (staged P) ks w)) ≡ afterBy P w (rendered P zeros ks w)
+  pub after-done : passed (judged P zeros ks w) ≡ true → afterBy P w (done (runs (louder P) ks Exhausted) (reaches P ks) (runs (staged P) ks w)) ≡ afterBy P w (rendered P zeros ks w)
   unfolding rendered ended
   after-done e = sym (ap (λ (o : Option Verdict). afterBy P w (ended P ks w o)) (is-none (judged P zeros ks w) e))

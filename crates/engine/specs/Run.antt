@@ -13,7 +13,9 @@
 --     "Writing stores on a stale buffer .., and adds .. on any other; then the mark is cleared"    write, of magnetron; putPlayed
 --     "Each value is first multiplied by out_level, 1.0 if absent."                         levelAsks, of stages; levelled, of magnetron; sounded
 --     "Activity is that of the output's kind; a run's is the greatest, Exhausted if empty." louder, ended
-use mathlib.Core.Bool.{Bool, true, false, not, _&&_, _||_}
+-- And 02's, Five:
+--     "The run's result holds, for each stage number, the answer of its last sample, and "within" for .. unordered stages, .. and refusals."    reaches, ended, afterBy
+use mathlib.Core.Bool.{Bool, true, false, not, _&&_, _||_, cond}
 use mathlib.Core.List.{List, [], _∷_, _++_, map, zipWith}
 use mathlib.Core.Option.{Option, none, some}
 use Prim.Native.Nat.{ℕ, _+_}
@@ -36,6 +38,8 @@ use Rattle.magnetron.specs.Single.{levelled}
 use Rattle.magnetron.specs.declared.buffer.Marks.{Marks}
 use Rattle.magnetron.specs.declared.buffer.BufferIndex.{BufferIndex}
 use Rattle.magnetron.specs.declared.pool.Pools.{Pools}
+use Rattle.util.specs.declared.reach.Reach.{Reach}
+use Rattle.util.specs.declared.reach.Reach.the-variants.{Within}
 use Rattle.microwave.specs.Parameter.{allFound, numberFor, numbersOf}
 use Rattle.microwave.specs.declared.parameter.Ask.{Ask}
 use Rattle.stages.specs.declared.stage.Stage.{Stage}
@@ -44,8 +48,10 @@ use Rattle.stages.specs.declared.state.State.{State}
 use Rattle.stages.specs.declared.state.States.{States}
 use Rattle.stages.specs.declared.window.RenderWindow.{RenderWindow}
 use Rattle.stages.specs.declared.machine.Machine.{Machine}
+use Rattle.stages.specs.declared.reach.StageReach.{StageReach}
 use Rattle.stages.specs.Stage.{inputsOf, secondOf, outputsOf, asksOf, levelAsks, Own, own, windowOf, settled, machinesBy, entered, Hears, hear, nextOf, outOf}
 use Rattle.stages.specs.Rings.{noState, stageIn, lenIn, ringAt, ringsOk}
+use Rattle.stages.specs.Reach.{lastReach, stageReach, allWithin}
 use Rattle.engine.specs.declared.run.Ran.{Ran}
 
 -- ---- what is given, and what changes
@@ -224,15 +230,28 @@ staged P k w = putPlayed P k (playedAt P k w) w
 unfoldable pub louder : Plan → ℕ → StageActivity → StageActivity
 louder P k a = runs louderBy (outsAt P k) a
 
+-- ---- whether each string reaches its note: of the plan and the order alone
+
+-- the answer of a stage's last sample
+abbrev pub toldOf : RenderWindow → List Float → Stage → Reach
+toldOf window values stage = lastReach (stage .kind) (numbersOf (asksOf (stage .kind)) values (window .«render_window_secs»)) window
+
+-- "for each stage number"; "'within' for .. unordered stages"
+unfoldable pub toldAt : Plan → List ℕ → ℕ → Reach
+toldAt P ks k = cond (holds k ks) (toldOf (P .window) (P .values) (stageAt P k)) Within
+
+unfoldable pub reaches : Plan → List ℕ → List StageReach
+reaches P ks = tab 32 (λ k. stageReach (toldAt P ks k))
+
 -- ---- the run
 
 pub data Rendered : Type 0 where
   refused : Verdict → Rendered
-  done : StageActivity → World → Rendered
+  done : StageActivity → List StageReach → World → Rendered
 
 -- refused as judged, or all stages in order; "a run's [activity] is the greatest, Exhausted if empty"
 unfoldable pub ended : Plan → List ℕ → World → Option Verdict → Rendered
-ended P ks w none = done (runs (louder P) ks Exhausted) (runs (staged P) ks w)
+ended P ks w none = done (runs (louder P) ks Exhausted) (reaches P ks) (runs (staged P) ks w)
 ended P ks w (some r) = refused r
 
 -- "All of it precedes the first sample.": the verdict is of the world on entry
@@ -252,10 +271,10 @@ after r internal external rings = record { ran = r; internal = internal; externa
 -- "A refusal returns its number, the stage .. and Exhausted; every record and lent slice is unchanged."; "0: done; stage 32"
 unfoldable pub afterBy : Plan → World → Rendered → After
 afterBy P w (refused v) =
-    after (record { answer = refusedAnswer v; pools = P .pools; states = record { stages = w .states } })
+    after (record { answer = refusedAnswer v; pools = P .pools; states = record { stages = w .states }; reaches = allWithin })
     (w .banks .internal .samples) (w .banks .external .samples) (w .rings)
-afterBy P w (done a u) =
-    after (record { answer = acceptedAnswer a; pools = remarked (P .pools) (marksOf (u .banks)); states = record { stages = u .states } })
+afterBy P w (done a told u) =
+    after (record { answer = acceptedAnswer a; pools = remarked (P .pools) (marksOf (u .banks)); states = record { stages = u .states }; reaches = record { stages = told } })
     (u .banks .internal .samples) (u .banks .external .samples) (u .rings)
 
 -- THE DEFINITION

@@ -8,19 +8,23 @@ use answers::answer::accepted;
 use answers::answer::refused;
 use magnetron::pool::Pools;
 use stages::patch::Patch;
+use stages::reach::Reaches;
+use stages::reach::StageReach;
+use stages::reach::all_within;
 use stages::state::States;
 use stages::window::render_window;
 ghost use mathlib.Core.Path.{_≡_};
 ghost use Rattle.order.specs.Order.{runs};
 ghost use Rattle.answers.specs.declared.activity.StageActivity.the-variants.{Exhausted};
-ghost use Rattle.engine.specs.Run.{staged, louder, done, after, afterBy, given, runOf};
+ghost use Rattle.engine.specs.Run.{staged, louder, reaches, done, after, afterBy, given, runOf};
 ghost use Rattle.engine.specs.Inside.{planIn, worldIn, Passed};
 
-// What a run answers, with the records that it hands back.
+// What a run answers, with the records that it hands back, and whether each string reached its note.
 pub struct Ran {
     pub answer: Answer,
     pub pools: Pools,
     pub states: States,
+    pub reaches: Reaches,
 }
 
 // The stages along the order, once the checks have passed.
@@ -36,6 +40,7 @@ fn run_order(
     ensures { λ r. ⌜ after r (now (internal .exit)) (now (external .exit)) (now (rings .exit))
         ≡ afterBy (planIn records (now (values .entry))) (worldIn records (now (internal .entry)) (now (external .entry)) (now (rings .entry)))
         (done (runs (louder (planIn records (now (values .entry)))) (now (order .entry)) Exhausted)
+        (reaches (planIn records (now (values .entry))) (now (order .entry)))
         (runs (staged (planIn records (now (values .entry)))) (now (order .entry)) (worldIn records (now (internal .entry)) (now (external .entry)) (now (rings .entry))))) ⌝ }
 {
     let patch = records.patch;
@@ -44,6 +49,7 @@ fn run_order(
     let starts = patch.ring_starts();
     let mut marks = pools.marks();
     let mut states = records.states;
+    let mut reaches = all_within();
     let mut activity = StageActivity::Exhausted;
     let mut j = 0;
     while j < order.len() {
@@ -60,8 +66,11 @@ fn run_order(
             pools,
             window,
         };
-        let next = turn.take(values, ring, internal, external);
+        let taken = turn.take(values, ring, internal, external);
+        let next = taken.state;
+        let reach = taken.reach;
         states.stages[k] = next;
+        reaches.stages[k] = StageReach { reach };
         let outputs = stage.outputs();
         marks = outputs.clear(marks);
         activity = outputs.louder(activity);
@@ -71,10 +80,12 @@ fn run_order(
         answer: accepted(activity),
         pools: pools.with_marks(marks),
         states,
+        reaches,
     }
 }
 
-// A run of n samples, each `width` seconds wide. Answers 0, stage 32 and the greatest activity, or the first refusal.
+// A run of n samples, each `width` seconds wide. Answers 0, stage 32 and the greatest activity, or the first refusal; and by stage number whether
+// the last sample of its string was within its ring.
 pub fn run(
     patch: Patch,
     order: &[u8],
@@ -104,6 +115,7 @@ pub fn run(
             answer: refused(verdict),
             pools,
             states,
+            reaches: all_within(),
         };
     }
     run_order(records, order, internal, external, rings, values)

@@ -18,12 +18,14 @@ use stages::machine::Sources;
 use stages::stage::Stage;
 use stages::state::State;
 use stages::window::RenderWindow;
+use util::reach::Reach;
 ghost use mathlib.Core.Path.{_≡_};
 ghost use Prim.Native.Nat.{_≤_};
 ghost use Rattle.order.specs.Order.{runs};
 ghost use Rattle.magnetron.specs.Buffers.{pick, cleared, listOf};
 ghost use Rattle.magnetron.specs.Pools.{baseOf, banksOf, sided};
 ghost use Rattle.stages.specs.Stage.{outputsOf, own as owned};
+ghost use Rattle.engine.specs.Run.{toldOf};
 ghost use Rattle.engine.specs.Inside.{Placed, sourcesOf, targetOf, Wired, Ready, Begun, secondIn, Turned};
 
 // Where the loop that writes `output` finds the inputs.
@@ -56,6 +58,12 @@ pub(crate) struct Turn {
     pub window: RenderWindow,
 }
 
+// What a turn leaves of its stage: what it remembers, and whether its string reached its note.
+pub(crate) struct Taken {
+    pub state: State,
+    pub reach: Reach,
+}
+
 // Where an output is written, and how: by its own mark.
 fn target_of(pools: Pools, marks: Marks, samples: usize, output: BufferIndex, level: f64) -> Target
     requires { ⌜ baseOf pools output ≤ 65536 ⌝ }
@@ -71,11 +79,12 @@ fn target_of(pools: Pools, marks: Marks, samples: usize, output: BufferIndex, le
 
 impl Turn {
     // One window of the stage's own output: `own` is its pool, `ring` the stage's ring.
-    fn render(self, values: &[f64], ring: &mut [f64], own: &mut [f64], other: &[f64]) -> State
+    fn render(self, values: &[f64], ring: &mut [f64], own: &mut [f64], other: &[f64]) -> Taken
         requires { ⌜ Ready (self .pools) (self .window) (now values) (self .stage) (self .marks) (owned (self .state) (now ring)) (now own) (now other) ⌝ }
+        ensures { λ r. ⌜ r .reach ≡ toldOf (self .window) (now (values .entry)) (self .stage) ⌝ }
         ensures { λ r. ⌜ Begun (self .pools) (self .window) (now (values .entry)) (self .stage)
             (owned (self .state) (now (ring .entry))) (sided (self .stage .output) (now (own .entry)) (now (other .entry)) (self .marks))
-            (owned r (now (ring .exit))) (sided (self .stage .output) (now (own .exit)) (now (other .entry)) (cleared (self .stage .output) (self .marks))) ⌝ }
+            (owned (r .state) (now (ring .exit))) (sided (self .stage .output) (now (own .exit)) (now (other .entry)) (cleared (self .stage .output) (self .marks))) ⌝ }
     {
         let stage = self.stage;
         let kind = stage.kind;
@@ -92,14 +101,16 @@ impl Turn {
         );
         let inputs = sources(kind.inputs(), self.pools, self.marks, output);
         let machine = kind.settle(numbers, self.window, self.state);
-        machine.play(
+        let reach = machine.reach(self.window.buffer_len);
+        let state = machine.play(
             kind.enter(numbers, self.state),
             ring,
             own,
             other,
             inputs,
             target,
-        )
+        );
+        Taken { state, reach }
     }
 
     // The kind of the stage's own output picks the pool that is written.
@@ -109,12 +120,13 @@ impl Turn {
         ring: &mut [f64],
         internal: &mut [f64],
         external: &mut [f64],
-    ) -> State
+    ) -> Taken
         requires { ⌜ Ready (self .pools) (self .window) (now values) (self .stage) (self .marks) (owned (self .state) (now ring))
             (pick (self .stage .output) (now internal) (now external)) (pick (self .stage .output) (now external) (now internal)) ⌝ }
+        ensures { λ r. ⌜ r .reach ≡ toldOf (self .window) (now (values .entry)) (self .stage) ⌝ }
         ensures { λ r. ⌜ Begun (self .pools) (self .window) (now (values .entry)) (self .stage)
             (owned (self .state) (now (ring .entry))) (banksOf (now (internal .entry)) (now (external .entry)) (self .marks))
-            (owned r (now (ring .exit))) (banksOf (now (internal .exit)) (now (external .exit)) (cleared (self .stage .output) (self .marks))) ⌝ }
+            (owned (r .state) (now (ring .exit))) (banksOf (now (internal .exit)) (now (external .exit)) (cleared (self .stage .output) (self .marks))) ⌝ }
     {
         let stage = self.stage;
         let output = stage.output;
@@ -160,28 +172,29 @@ impl Turn {
         ring: &mut [f64],
         internal: &mut [f64],
         external: &mut [f64],
-    ) -> State
+    ) -> Taken
         requires { ⌜ Ready (self .pools) (self .window) (now values) (self .stage) (self .marks) (owned (self .state) (now ring))
             (pick (self .stage .output) (now internal) (now external)) (pick (self .stage .output) (now external) (now internal)) ⌝ }
+        ensures { λ r. ⌜ r .reach ≡ toldOf (self .window) (now (values .entry)) (self .stage) ⌝ }
         ensures { λ r. ⌜ Turned (self .pools) (self .window) (now (values .entry)) (self .stage)
             (owned (self .state) (now (ring .entry))) (banksOf (now (internal .entry)) (now (external .entry)) (self .marks))
-            (owned r (now (ring .exit))) (banksOf (now (internal .exit)) (now (external .exit)) (runs cleared (outputsOf (self .stage)) (self .marks))) ⌝ }
+            (owned (r .state) (now (ring .exit))) (banksOf (now (internal .exit)) (now (external .exit)) (runs cleared (outputsOf (self .stage)) (self .marks))) ⌝ }
     {
-        let next = self.begin(values, ring, internal, external);
+        let taken = self.begin(values, ring, internal, external);
         let stage = self.stage;
         let kind = stage.kind;
         let Second::Right(side) = kind.second() else {
-            return next;
+            return taken;
         };
         let right = side.output;
         match right {
             BufferIndex::External(_) => {
                 self.render_second(side, values, external, internal);
-                return next;
+                return taken;
             }
             BufferIndex::Internal(_) => {
                 self.render_second(side, values, internal, external);
-                return next;
+                return taken;
             }
         }
     }

@@ -2,10 +2,12 @@
 --     an activity leaves as its rank, a buffer comes as its number      answerOf; bufferOf, of magnetron
 --     a single write                                                    writeOf, of magnetron; flatWriteOf
 --     A RUN                                                             runOf, of engine; flatRunOf
+--     what a string tells leaves as its number                          reachNumbers, of flat
 use Prim.Native.Nat.{ℕ}
 use mathlib.Core.Bool.{Bool, cond}
 use mathlib.Core.List.{List}
 use lib.Dec.{eqb}
+use lib.ListN.{replicate}
 use lib.Ieee.{Float}
 use Rattle.answers.specs.Activity.{rankOf}
 use Rattle.answers.specs.declared.answer.Answer.{Answer}
@@ -20,6 +22,7 @@ use Rattle.stages.specs.declared.state.States.{States}
 use Rattle.engine.specs.declared.run.Ran.{Ran}
 use Rattle.engine.specs.Run.{Given, After, runOf}
 use Rattle.flat.specs.Patch.{unknownOf}
+use Rattle.flat.specs.Reach.{reachNumbers}
 use Rattle.flat.specs.declared.patch.FlatPatch.{FlatPatch}
 use Rattle.host.specs.declared.run.FlatAnswer.{FlatAnswer}
 use Rattle.host.specs.declared.run.FlatRan.{FlatRan}
@@ -65,14 +68,14 @@ abbrev pub flatAfter : FlatRan → List Float → List Float → List Float → 
 flatAfter r internal external rings = record { ran = r; internal = internal; external = external; rings = rings }
 
 abbrev pub ranOf : Ran → FlatRan
-ranOf r = record { answer = answerOf (r .answer); pools = r .pools; states = r .states }
+ranOf r = record { answer = answerOf (r .answer); pools = r .pools; states = r .states; reach = reachNumbers (r .reaches) }
 
 abbrev pub flatRan : After → FlatAfter
 flatRan l = flatAfter (ranOf (l .ran)) (l .internal) (l .external) (l .rings)
 
--- refused with 22 and the stage whose numbers name none
+-- refused with 22 and the stage whose numbers name none, and no string out of reach
 abbrev pub unknownRan : ℕ → Pools → States → FlatRan
-unknownRan k p states = record { answer = record { number = 22; stage = k; activity = 0 }; pools = p; states = states }
+unknownRan k p states = record { answer = record { number = 22; stage = k; activity = 0 }; pools = p; states = states; reach = replicate 32 0 }
 
 -- a run of engine's, given the patch that the numbers name; where a stage's numbers name none, nothing changes
 unfoldable pub flatRunOf : FlatPatch → Given → List ℕ → FlatAfter

@@ -3,6 +3,7 @@ use answers::answer::Answer;
 use engine::run::Ran;
 use flat::patch::FlatPatch;
 use flat::patch::patch_of;
+use flat::reach::reach_numbers;
 use magnetron::pool::Pools;
 use stages::state::States;
 ghost use mathlib.Core.Path.{_≡_};
@@ -19,12 +20,13 @@ pub struct FlatAnswer {
     pub activity: u8,
 }
 
-// What a run answers, with the records for the next one.
+// What a run answers, with the records for the next one, and by stage number whether each string reached its note.
 #[repr(C)]
 pub struct FlatRan {
     pub answer: FlatAnswer,
     pub pools: Pools,
     pub states: States,
+    pub reach: [u8; 32],
 }
 
 pub(crate) fn answer_of(answer: Answer) -> FlatAnswer
@@ -44,10 +46,12 @@ fn ran_of(ran: Ran) -> FlatRan
     let answer = ran.answer;
     let pools = ran.pools;
     let states = ran.states;
+    let reaches = ran.reaches;
     FlatRan {
         answer: answer_of(answer),
         pools,
         states,
+        reach: reach_numbers(reaches),
     }
 }
 
@@ -64,6 +68,7 @@ fn unknown_ran(stage: usize, pools: Pools, states: States) -> FlatRan
         answer,
         pools,
         states,
+        reach: [0u8; 32],
     }
 }
 

@@ -1,6 +1,6 @@
 -- WHAT A RUN ANSWERS, AND WHAT A REFUSED ONE LEAVES, read off the definition of a run for any patch, order and lent slices.
 --     answered             0 comes with stage 32, 1 to 4 with stage 32, and 5 to 8 with a stage of the order
---     refused-unchanged    nothing but the answer is new, and its activity is Exhausted
+--     refused-unchanged    nothing but the answer is new, its activity is Exhausted, and no string is out of reach
 -- Assumes nothing.
 use mathlib.Core.Path.{_≡_, refl}
 use mathlib.Core.Logic.{_≢_, _⊎_, inl, inr}
@@ -23,6 +23,7 @@ use Rattle.magnetron.specs.declared.buffer.Marks.{Marks}
 use Rattle.microwave.specs.Parameter.{allFound}
 use Rattle.stages.specs.Stage.{inputsOf, outputsOf, asksOf, levelAsks}
 use Rattle.stages.specs.Rings.{ringsOk}
+use Rattle.stages.specs.Reach.{allWithin}
 use Rattle.engine.specs.Run.{Plan, World, stageAt, orderly, Given, After, after, planOf, worldOf, entry, faultOf, named, fault, turned, judged, ended, rendered, afterBy, runOf}
 
 -- ---- the numbers of the checks
@@ -95,9 +96,9 @@ module _ (g : Given) (order : List ℕ) where
       go none (some v) h k = inr (inr k)
       go (some v) along (low, high, inl e) k = inr (inl (low, high, e))
 
-  -- ".. and Exhausted; every record and lent slice is unchanged."
+  -- ".. and Exhausted; every record and lent slice is unchanged."; 02: "'within' for .. refusals"
   abbrev Unchanged : After → Type 0
-  Unchanged l = l ≡ after (record { answer = record { number = l .ran .answer .number; stage = l .ran .answer .stage; activity = Exhausted }; pools = g .pools; states = g .states }) (g .internal) (g .external) (g .rings)
+  Unchanged l = l ≡ after (record { answer = record { number = l .ran .answer .number; stage = l .ran .answer .stage; activity = Exhausted }; pools = g .pools; states = g .states; reaches = allWithin }) (g .internal) (g .external) (g .rings)
 
   pub refused-unchanged : run .ran .answer .number ≢ 0 → Unchanged run
   unfolding runOf rendered ended afterBy

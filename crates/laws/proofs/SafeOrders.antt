@@ -3,7 +3,7 @@
 -- What it says. Take any patch, pools, states, window, lent slices and values, all that a run is given, and two orders of the same stage numbers, each number once.
 -- Two stages of the patch are tied where one of them writes a buffer that the other reads or writes (`specs/Tied.antt`). If every two tied stages
 -- stand in the same sequence in both orders, then both runs are refused, or both have the same outcome, whole: the answer with its activity, the
--- pools with their marks, the states, the samples of both pools, and the rings. A run is `runOf`, the definition that the contract of `run` cites.
+-- pools with their marks, the states, what the string of each stage tells, the samples of both pools, and the rings. A run is `runOf`, the definition that the contract of `run` cites.
 -- A number that names no stage is tied to none, so that where it stands is no premise (`no-stages`): an order that holds one is refused.
 --
 -- What it does not say. Nothing of orders in which two tied stages change places: they can end differently, as case 12 of the listed cases

@@ -1,12 +1,12 @@
 -- What two orders of the same stages leave, where every two tied stages stand in the same sequence in both. Each part is the trace law of the
 -- crate `order`, or one of its consequences.
 --     same-judged       the checks pass for both, or for neither
---     same-ended        where they pass: activity, buffers, states and rings
+--     same-ended        where they pass: activity, what strings tell, buffers, states and rings
 --     same-after         both together
 -- Assumes nothing.
 use mathlib.Core.Path.{_≡_, refl, sym, ap, _∙_}
 use mathlib.Core.Logic.{_≢_, _⊎_, inl, inr, ⊎-elim}
-use mathlib.Core.Bool.{Bool, true, false, _&&_, _||_, true≢false, false≢true, and-assoc, and-comm}
+use mathlib.Core.Bool.{Bool, true, false, _&&_, _||_, true≢false, false≢true, and-assoc, and-comm, or-true}
 use mathlib.Core.List.{List, [], _∷_}
 use mathlib.Core.Option.{Option, none, some}
 use Prim.Native.Nat.{ℕ, suc, _+_, _<_}
@@ -14,7 +14,7 @@ use native.Mathlib.Omega.{arith}
 use lib.Dec.{eqb, ltb}
 use lib.ListN.{length}
 use lib.Ieee.{Float}
-use borrow.Author.Tests.{eqb-true, ltb-true}
+use borrow.Author.Tests.{eqb-true, eq-eqb, ltb-true}
 use Rattle.order.specs.Order.{Among, Once, SameOrder, runs}
 use Rattle.order.specs.Checks.{passed, verdict}
 use Rattle.order.proofs.Trace.{trace}
@@ -29,7 +29,8 @@ use Rattle.magnetron.specs.Buffers.{marksOf, activityOf, louderBy}
 use Rattle.magnetron.specs.declared.buffer.Marks.{Marks}
 use Rattle.magnetron.proofs.Writes.{folds-swap}
 use Rattle.magnetron.proofs.Told.{fits}
-use Rattle.engine.specs.Run.{Plan, World, outsAt, staged, louder, allBelow, holds, repeats, orderly, entry, named, fault, turned, judged, ended, rendered, After, afterBy}
+use Rattle.magnetron.proofs.Windows.{tab-ext}
+use Rattle.engine.specs.Run.{Plan, World, outsAt, staged, louder, toldAt, reaches, allBelow, holds, repeats, orderly, entry, named, fault, turned, judged, ended, rendered, After, afterBy}
 use Rattle.engine.specs.Inside.{returned, Admitted}
 use Rattle.engine.proofs.Entries.{entry-told}
 use Rattle.engine.proofs.Faults.{passed-named}
@@ -43,6 +44,11 @@ use Rattle.laws.proofs.Commute.{untied, tied-even, staged-swap, fault-s
 holds-among : (k : ℕ) (ks : List ℕ) → holds k ks ≡ true → Among k ks
 holds-among k [] h = absurd (false≢true h)
 holds-among k (x ∷ xs) h = ⊎-elim (λ e. inl (eqb-true k x e)) (λ e. inr (holds-among k xs e)) (or-cases (eqb k x) (holds k xs) h)
+
+among-holds : (k : ℕ) (ks : List ℕ) → Among k ks → holds k ks ≡ true
+among-holds k [] m = absurd m
+among-holds k (x ∷ xs) (inl e) = rw (eq-eqb k x e)
+among-holds k (x ∷ xs) (inr m) = rw (among-holds k xs m, or-true (eqb k x))
 
 once-repeats : (ks : List ℕ) → Once ks → repeats ks ≡ false
 once-repeats [] o = refl
@@ -102,6 +108,14 @@ module _ (P : Plan) (xs ys : List ℕ) (h : SameOrder (tied P) xs ys) where
   same-length : length xs ≡ length ys
   same-length = omega (arith, runs-length xs 0, runs-length ys 0, shuffle {A = ℕ} (λ k. suc) (λ a b s. refl) (tied P) xs ys h 0)
 
+  same-members : (k : ℕ) → holds k xs ≡ holds k ys
+  same-members k = go (holds k xs) (holds k ys) refl refl
+    where
+      go : (b c : Bool) → holds k xs ≡ b → holds k ys ≡ c → b ≡ c
+      go true c e f = sym (among-holds k ys (h .members k .0 (holds-among k xs e))) ∙ f
+      go false true e f = sym e ∙ among-holds k xs (h .members k .1 (holds-among k ys f))
+      go false false e f = refl
+
   same-stages : (c : ℕ) → allBelow c xs ≡ allBelow c ys
   same-stages c =
       sym (runs-below c xs true)
@@ -141,6 +155,10 @@ module _ (P : Plan) (xs ys : List ℕ) (h : SameOrder (tied P) xs ys) where
           folds-swap louderBy (outsAt P a) (outsAt P b)
           (λ c d m n t. swap-in greaterOf greater-assoc greater-comm t (activityOf d) (activityOf c)) s
 
+  same-reaches : reaches P xs ≡ reaches P ys
+  unfolding reaches toldAt
+  same-reaches = tab-ext 32 _ _ (λ k b. rw (same-members k))
+
   module _ (zeros : List Float) (w : World) (e : passed (judged P zeros xs w) ≡ true) where
     same-world : runs (staged P) xs w ≡ runs (staged P) ys w
     same-world =
@@ -151,7 +169,7 @@ module _ (P : Plan) (xs ys : List ℕ) (h : SameOrder (tied P) xs ys) where
 
     pub same-ended : ended P xs w none ≡ ended P ys w none
     unfolding ended
-    same-ended = rw (same-activity, same-world)
+    same-ended = rw (same-activity, same-reaches, same-world)
 
   -- both are refused, or both leave the same
   pub same-after : (zeros : List Float) (w : World)

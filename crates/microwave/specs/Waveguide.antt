@@ -5,7 +5,6 @@ use lib.IntN.{pos}
 use lib.ListN.{length}
 use lib.Ieee.{Float, binary64, ofBits, neg, ofInt}
 use Rattle.numbers.specs.Constants.{zero64, one64, half64}
-use Rattle.numbers.specs.Small.{heldOf}
 use Rattle.util.specs.DelayLine.{delayAt}
 use Rattle.util.specs.Interaction.{Step, over, dampingOf, lowPassAt, lowPassGain}
 use Rattle.util.specs.Comb.{Comb, tunedStep}
@@ -32,15 +31,14 @@ lengthFactor Negative = half64
 abbrev pub responseAt : Float → Float → Float → LowPassGain
 responseAt damping gain state = record { first = lowPassAt damping state; second = gain }
 
--- "low-pass rate 1/w; length_factor/(w*frequency) minus the low-pass delay, over buffer_size, held to 0..1". The low-pass delay is the same
--- at any state. "ring length is one more"
+-- "low-pass rate 1/w; length_factor/(w*frequency) minus the low-pass delay, over buffer_size, held to 0..1". 02: "Waveguides pass their
+-- quotient unheld", and the ring's read holds it. The low-pass delay is the same at any state. "ring length is one more"
 unfoldable pub guideOf : Reflectance → ℕ → Float → Float → Float → Float → Guide
 guideOf reflectance size frequency cutoff feedback w =
     let damping = dampingOf cutoff (one64 ⊘ w) in
     let gain = feedback ⊗ feedbackFactor reflectance in
     let skip = lengthFactor reflectance ⊘ (w ⊗ frequency) ⊖ lowPassGain .delay (responseAt damping gain zero64) in
-    let fract = heldOf (skip ⊘ ofInt binary64 (pos size)) zero64 one64 in
-    record { damping = damping; gain = gain; delay = delayAt (size + 1) fract }
+    record { damping = damping; gain = gain; delay = delayAt (size + 1) (skip ⊘ ofInt binary64 (pos size)) }
 
 -- ---- one sample
 

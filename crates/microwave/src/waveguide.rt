@@ -1,7 +1,6 @@
 // The waveguide, a comb that is tuned to a string's length: what a window works out once, and one step per sample. Port of waveguide.rs.
 // Rests on the comb of `util`.
 use crate::parameter::Parameter;
-use numbers::small::held;
 use util::comb_filter::TunedComb;
 use util::delay_line::Cursor;
 use util::delay_line::Delay;
@@ -36,7 +35,7 @@ pub struct StringMemory {
     pub position: usize,
 }
 
-// What a window works out once: the low-pass's damping, the gain after it, and how far back the ring is read.
+// What a window works out once: the low-pass's damping, the gain after it, and how far back the ring is read, with whether it reaches that far.
 pub struct Guide {
     pub damping: f64,
     pub gain: f64,
@@ -79,7 +78,7 @@ fn delay_over(buffer_size: usize, fract_offset: f64) -> Delay
     delay_at(0, fract_offset)
 }
 
-// What a waveguide works out for a window whose samples are w seconds wide.
+// What a waveguide works out for a window whose samples are w seconds wide. The ring holds the fraction to 0..1, and tells whether it had to.
 pub fn guide_of(
     reflectance: Reflectance,
     buffer_size: usize,
@@ -96,7 +95,7 @@ pub fn guide_of(
     let num_samples_to_skip_back = reflectance.length_factor() / (w * frequency)
         - low_pass.delay_samples();
     let size = std::num::nearest_u64_to_f64(buffer_size as u64);
-    let fract_offset = held(num_samples_to_skip_back / size, 0.0, 1.0);
+    let fract_offset = num_samples_to_skip_back / size;
     Guide {
         damping: first.damping,
         gain: second,

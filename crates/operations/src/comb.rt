@@ -7,16 +7,17 @@ use util::delay_line::Cursor;
 use util::interaction::AnyInteraction;
 use util::interaction::LowPassGain;
 use util::low_pass::OnePoleLowPass;
+use util::reach::Reach;
 use util::soft_clip::SoftClip;
 
-// One operation, by its number.
+// One operation, by its number. 1 and 3 differ in what is told of them.
 pub(crate) fn perform(device: Device, ring: &mut [f64], operation: u64, a: f64, b: f64) -> Device {
     let filter = device.comb();
     match operation {
         0 => {
             return device.combed(filter.process_sample(ring, a));
         }
-        1 => {
+        1 | 3 => {
             return device.combed(filter.process_sample_fract(ring, a, b));
         }
         _ => {
@@ -32,6 +33,7 @@ fn silenced(muted: Muted) -> Combed {
         verdict,
         comb,
         sample: 0.0,
+        reach: Reach::Within,
     }
 }
 
@@ -74,7 +76,8 @@ impl Device {
     fn combed(self, combed: Combed) -> Device {
         let verdict = combed.verdict;
         let filter = combed.comb;
-        let mut device = self.after(verdict, filter.cursor.position, combed.sample);
+        let reach = combed.reach;
+        let mut device = self.after(verdict, filter.cursor.position, combed.sample, reach);
         let response = filter.response;
         let AnyInteraction::LowPassGain(chain) = response else {
             return device;

@@ -6,11 +6,14 @@ use crate::low_pass;
 use crate::ring;
 use crate::shape;
 use crate::shape::count;
+use crate::shape::tells_reach;
 use crate::soft_clip;
 use answers::verdict::Verdict;
 use stream::place::Buffer;
 use stream::place::Place;
 use util::low_pass::damping;
+use util::reach::Reach;
+use util::reach::number;
 use words::number::from_word;
 use words::number::to_word;
 
@@ -29,6 +32,7 @@ pub(crate) struct Device {
     pub(crate) number: usize,
     pub(crate) stage: usize,
     pub(crate) sample: f64,
+    pub(crate) reach: u64,
 }
 
 // A device as its settings have it, and the place after them.
@@ -107,6 +111,7 @@ fn read_device(start: Place, sort: u64, input: &mut Buffer, position: usize) -> 
         number: 0,
         stage: 0,
         sample: 0.0,
+        reach: 0,
     };
     Set {
         place: place.refused_if(rest.b > 1),
@@ -141,7 +146,7 @@ fn operate(
         let request = read_request(place, device.sort, input);
         device = perform(device, ring, request.operation, request.a, request.b);
         let asked = request.place;
-        place = write_step(asked, device, output);
+        place = write_step(asked, device, request.operation, output);
     }
     write_end(place, device, output, ring)
 }
@@ -185,25 +190,36 @@ fn perform(device: Device, ring: &mut [f64], operation: u64, a: f64, b: f64) -> 
 
 impl Device {
     // After an operation on a ring.
-    pub(crate) fn after(mut self, verdict: Verdict, position: usize, sample: f64) -> Device {
+    pub(crate) fn after(
+        mut self,
+        verdict: Verdict,
+        position: usize,
+        sample: f64,
+        reach: Reach,
+    ) -> Device {
         self.number = verdict.number;
         self.stage = verdict.stage;
         self.position = position;
         self.sample = sample;
+        self.reach = number(reach) as u64;
         self
     }
 }
 
-// An operation's answer: the outcome, where it stands over a ring, and the sample.
-fn write_step(place: Place, device: Device, output: &mut Buffer) -> Place {
+// An operation's answer: the outcome, where it stands over a ring, the sample, and what the ring reaches where that is told.
+fn write_step(place: Place, device: Device, operation: u64, output: &mut Buffer) -> Place {
     let sample = to_word(device.sample);
     if count(device.sort, shape::RING) == 0 {
         return place.write(output, sample);
     }
-    place
+    let told = place
         .write(output, device.number as u64)
         .write(output, device.stage as u64)
-        .write(output, sample)
+        .write(output, sample);
+    if tells_reach(device.sort, operation) {
+        return told.write(output, device.reach);
+    }
+    told
 }
 
 // After the last operation: the position and all cells of a ring, and what else is remembered.

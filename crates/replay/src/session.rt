@@ -1,6 +1,7 @@
 // Sort 1: a session of runs. Pools, a patch and states are lent once, and window follows window over what the one before left. Rests on
 // `loans` and `operations::pools` for what it reads, and on `window` for each window.
 use crate::window::Session;
+use crate::window::Wanted;
 use crate::window::answer_window;
 use loans::patch::read_patch;
 use loans::states::read_states;
@@ -12,11 +13,11 @@ use stages::patch::Patch;
 use stream::place::Buffer;
 use stream::place::Place;
 
-// What comes before the stages, with their count: whether answers include states and rings, and how much of each array is lent. Nothing is
-// stale in the pools yet.
+// What comes before the stages, with their count: what answers include, and how much of each array is lent. Nothing is stale in the pools
+// yet.
 struct Heading {
     place: Place,
-    with_states: bool,
+    wanted: Wanted,
     pools: Pools,
     lengths: Lengths,
     values: usize,
@@ -61,18 +62,22 @@ pub(crate) fn answer(
     )
 }
 
-// Flags, sizes, lengths and the count of the stages.
+// Flags, which add up, sizes, lengths and the count of the stages.
 fn read_heading(start: Place, input: &mut Buffer) -> Heading {
-    let flags = start.next_up_to(input, 1);
+    let flags = start.next_up_to(input, 3);
     let sizes = read_sizes(flags.place, input);
     let sized = sizes.place;
     let more = sized.next_few(input, 3);
     let place = more.place;
     let pools = sizes.pools;
     let lengths = sizes.lengths;
+    let wanted = Wanted {
+        states: flags.word % 2 == 1,
+        reaches: flags.word > 1,
+    };
     Heading {
         place,
-        with_states: flags.word == 1,
+        wanted,
         pools,
         lengths,
         values: more.a as usize,
@@ -97,7 +102,7 @@ fn answer_over(
     let session = read_session(filled, heading.pools, input);
     answer_windows(
         session,
-        heading.with_states,
+        heading.wanted,
         read.patch,
         input,
         output,
@@ -144,7 +149,7 @@ fn read_session(start: Place, pools: Pools, input: &mut Buffer) -> Session {
 // The number of windows, and then window after window.
 fn answer_windows(
     start: Session,
-    with_states: bool,
+    wanted: Wanted,
     patch: Patch,
     input: &mut Buffer,
     output: &mut Buffer,
@@ -166,7 +171,7 @@ fn answer_windows(
         session.place = place;
         session = answer_window(
             session,
-            with_states,
+            wanted,
             patch,
             input,
             output,

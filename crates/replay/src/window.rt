@@ -1,5 +1,6 @@
 // One window of a session: what the host does first, then prepare and the run, and the answer. Rests on magnetron's `prepare` and the
 // engine's `run`, which refuse what is bad.
+use crate::reaches::write_reaches;
 use answers::activity::StageActivity;
 use answers::activity::rank;
 use answers::answer::Answer;
@@ -14,6 +15,7 @@ use magnetron::prepare::prepare;
 use operations::pools::Marked;
 use operations::pools::write_marks;
 use stages::patch::Patch;
+use stages::reach::all_within;
 use stages::state::States;
 use stream::place::Buffer;
 use stream::place::Place;
@@ -25,6 +27,12 @@ pub(crate) struct Session {
     pub(crate) place: Place,
     pub(crate) pools: Pools,
     pub(crate) states: States,
+}
+
+// What the answer to a window includes besides the pools: states and rings, and what each stage reached.
+pub(crate) struct Wanted {
+    pub(crate) states: bool,
+    pub(crate) reaches: bool,
 }
 
 // What a window begins with, and the place after it.
@@ -62,7 +70,7 @@ struct Order {
 // A window, from its first word on.
 pub(crate) fn answer_window(
     start: Session,
-    with_states: bool,
+    wanted: Wanted,
     patch: Patch,
     input: &mut Buffer,
     output: &mut Buffer,
@@ -95,7 +103,7 @@ pub(crate) fn answer_window(
         values,
         rings,
     );
-    write_answer(place, ran, with_states, output, internal, external, rings)
+    write_answer(place, ran, wanted, output, internal, external, rings)
 }
 
 // All words of a window. Values and external samples go where they belong.
@@ -245,14 +253,15 @@ fn not_run(prepared: Prepared, states: States) -> Ran {
         },
         pools,
         states,
+        reaches: all_within(),
     }
 }
 
-// The answer, all samples of both pools, and the marks; states and rings where they are wanted.
+// The answer, all samples of both pools, and the marks; states and rings, and what each stage reached, where they are wanted.
 fn write_answer(
     start: Place,
     ran: Ran,
-    with_states: bool,
+    wanted: Wanted,
     output: &mut Buffer,
     internal: &[f64],
     external: &[f64],
@@ -264,8 +273,11 @@ fn write_answer(
         .write_samples(output, internal)
         .write_samples(output, external);
     let mut place = write_marks(pooled, pools, output);
-    if with_states {
+    if wanted.states {
         place = write_states(place, states, output).write_samples(output, rings);
+    }
+    if wanted.reaches {
+        place = write_reaches(place, ran.reaches, output);
     }
     Session {
         place,

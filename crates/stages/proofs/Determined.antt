@@ -25,8 +25,10 @@ use Rattle.stages.proofs.patch.Patch.rings_ok.Reads as rings-ok
 use Rattle.stages.proofs.patch.Patch.ring_starts.Reads as ring-starts
 use Rattle.stages.proofs.state.new_state.Reads as new-state
 use Rattle.stages.proofs.state.new_states.Reads as new-states
+use Rattle.stages.proofs.reach.all_within.Reads as all-within
 use Rattle.stages.proofs.window.render_window.Reads as render-window
 use Rattle.stages.proofs.machine.Machine.play.Reads as play
+use Rattle.stages.proofs.machine.Machine.reach.Reads as reach
 use Rattle.stages.proofs.machine.Machine.step.Reads as step
 
 -- inputs by their list
@@ -67,6 +69,9 @@ patch-determined = (by-definition, by-definition)
 
 pub state-determined : Answer new-state.Post × Answer new-states.Post
 state-determined = (by-definition, by-definition)
+
+pub reach-determined : Answer all-within.Post × Answer reach.Post
+reach-determined = (by-definition, by-definition)
 
 pub window-determined : Answer render-window.Post
 window-determined = by-definition

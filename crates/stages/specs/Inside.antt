@@ -1,13 +1,17 @@
 -- What the helpers between `stages` and an engine ask and promise, in the definitions' words: no reader of a run need believe it. Definitions only. Assumes nothing.
 use mathlib.Core.Path.{_≡_}
+use mathlib.Core.Bool.{cond}
 use mathlib.Core.List.{List}
 use Prim.Native.Nat.{ℕ, _≤_, _<_}
+use lib.Dec.{eqb}
 use lib.ListN.{replicate}
 use lib.Ieee.{Float}
 use Rattle.magnetron.specs.Inside.Source.{signalOf}
 use Rattle.magnetron.specs.Signals.{window, stateAt, machine as machineOf}
 use Rattle.magnetron.specs.Inside.Target.{LiesIn, ClearOf, written}
 use Rattle.magnetron.specs.declared.output.Target.{Target}
+use Rattle.util.specs.declared.reach.Reach.{Reach}
+use Rattle.util.specs.declared.reach.Reach.the-variants.{Within}
 use Rattle.microwave.specs.Waveguide.{InRing}
 use Rattle.stages.specs.declared.patch.Patch.{Patch}
 use Rattle.stages.specs.declared.patch.Starts.{Starts}
@@ -29,6 +33,18 @@ abbrev pub startsOf : Patch → Starts
 startsOf patch = record { at = window (replicate 32 0) 0 (patch .count) (ringAt patch) }
 
 -- ---- a machine over a window
+
+-- what a machine tells of its ring, and what a window of n samples of it tells
+abbrev pub ringReach : Machine → Reach
+ringReach (machine.Plain k) = Within
+ringReach (machine.Oscillator k) = Within
+ringReach (machine.OnePole k) = Within
+ringReach (machine.Biquad k) = Within
+ringReach (machine.Waveguide k) = k .delay .reach
+ringReach (machine.Gain gain) = Within
+
+abbrev pub reachOver : ℕ → Machine → Reach
+reachOver n m = cond (eqb n 0) Within (ringReach m)
 
 -- sample i of what its loop hears
 abbrev pub hearing : Sources → List Float → List Float → ℕ → Hears

@@ -23,6 +23,7 @@ use Rattle.microwave.specs.declared.filter.FilterMachine.{FilterMachine}
 use Rattle.microwave.specs.declared.filter.FilterMachine.the-variants as filter
 use Rattle.microwave.specs.declared.plain.Shape.the-variants as shape
 use Rattle.microwave.specs.declared.waveguide.WaveguideSpec.{WaveguideSpec}
+use Rattle.microwave.specs.declared.waveguide.Guide.{Guide}
 use Rattle.microwave.specs.Parameter.{required, orZero, orOne, ofPair}
 use Rattle.microwave.specs.OnePole.{onePoleNext, onePoleOut}
 use Rattle.microwave.specs.Filter.{filterAsks, withNumbers, machineOf, biquadNext, biquadOut}
@@ -171,8 +172,11 @@ oscillatorMachine o d q window s =
       «sample_width» = window .«sample_width_secs»;
     })
 
+abbrev pub guideIn : WaveguideSpec → Numbers → RenderWindow → Guide
+guideIn g q window = guideOf (g .reflectance) (g .«buffer_size») (q .first) (q .second) (q .third) (window .«sample_width_secs»)
+
 abbrev pub waveguideMachine : WaveguideSpec → Numbers → RenderWindow → Machine
-waveguideMachine g q window = machine.Waveguide (guideOf (g .reflectance) (g .«buffer_size») (q .first) (q .second) (q .third) (window .«sample_width_secs»))
+waveguideMachine g q window = machine.Waveguide (guideIn g q window)
 
 abbrev pub settled : Kind → Numbers → RenderWindow → State → Machine
 settled (Pass a) q window s = machine.Plain shape.Pass

@@ -13,9 +13,10 @@ use microwave::window::one_pole_window;
 use microwave::window::oscillator_window;
 use microwave::window::plain_window;
 use microwave::window::string_window;
+use util::reach::Reach;
 ghost use mathlib.Core.Path.{_≡_};
 ghost use Rattle.stages.specs.Stage.{own as owned, hear, nextOf, outOf};
-ghost use Rattle.stages.specs.Inside.{hearing, Strings, Playable, Stepped};
+ghost use Rattle.stages.specs.Inside.{hearing, Strings, Playable, Stepped, reachOver};
 
 // Where a stage's loop finds its inputs; zeros where it has fewer than two.
 pub struct Sources {
@@ -90,6 +91,20 @@ impl Machine {
                 return state;
             }
         }
+    }
+
+    // Whether its ring reaches as far back as each sample of a window is read. A window of no samples reads nothing.
+    pub fn reach(self, samples: usize) -> Reach
+        ensures { λ r. ⌜ r ≡ reachOver samples self ⌝ }
+    {
+        if samples == 0 {
+            return Reach::Within;
+        }
+        let Machine::Waveguide(guide) = self else {
+            return Reach::Within;
+        };
+        let delay = guide.delay;
+        delay.reach
     }
 
     // One sample, given one of each input; `ring` is the stage's ring. For an engine that goes from sample to sample.

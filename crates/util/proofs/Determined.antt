@@ -21,6 +21,7 @@ use Rattle.util.specs.declared.interaction.AnyInteraction.{AnyInteractio
 use Rattle.util.specs.DelayLine.{advancedThere}
 use Rattle.util.specs.Interaction.{Step}
 use Rattle.util.specs.Comb.{Comb}
+use Rattle.util.proofs.reach.number.Reads as reach-number
 use Rattle.util.proofs.delay_line.delay_at.Reads as delay-at
 use Rattle.util.proofs.delay_line.Cursor.advance.Reads as advance
 use Rattle.util.proofs.delay_line.Cursor.write.Reads as write
@@ -51,6 +52,9 @@ use Rattle.util.proofs.all_pass.AllPassDelay.process_sample.Reads as al
 use Rattle.util.proofs.all_pass.AllPassDelay.process_sample_fract.Reads as all-pass-fract
 use Rattle.util.proofs.all_pass.AllPassDelay.mute.Reads as all-pass-mute
 use Rattle.util.proofs.lent.advance_lent as lent
+
+pub reach-determined : Answer reach-number.Post
+reach-determined = by-definition
 
 pub delay-line-determined : Answer delay-at.Post × Answer advance.Post × Determined (λ r s. outcome r (now (s .1 .0))) write.Post
     × Answer get-delayed.Post × Answer get-delayed-fract.Post × Determined (λ r s. outcome r (now (s .1 .0))) mute.Post

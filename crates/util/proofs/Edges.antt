@@ -15,6 +15,7 @@ use Rattle.numbers.specs.Constants.{zero64, one64}
 use Rattle.numbers.specs.Small.{negative, absOf, copysignOf, heldOf}
 use Rattle.numbers.specs.Ceil.{ceilOf, gapOf}
 use Rattle.numbers.proofs.Offset.{offset-zero}
+use Rattle.util.specs.Reach.{reachOf}
 use Rattle.util.specs.DelayLine.{slot, delayOf, delayedBy, delayedFract, inRing}
 use Rattle.util.specs.Interaction.{clipped}
 
@@ -60,7 +61,7 @@ pub oldest : (ring : List Float) (position : ℕ) (f : Float) → position < len
 unfolding delayedBy
 oldest ring position f h small e = rw (no-delay, whole, itself, neighbour, weight)
   where
-    no-delay : delayOf (length ring) f ≡ record { whole = 0; rest = zero64 }
+    no-delay : delayOf (length ring) f ≡ record { whole = 0; rest = zero64; reach = reachOf f }
     no-delay = unfold delayOf in rw (offset-zero (length ring - 1) f (omega (arith, small)) e) (unfold ceilOf gapOf ofBits ofInt round sub add neg in refl)
 
     whole : position + length ring - 0 ≡ position + length ring

@@ -6,7 +6,10 @@ use lib.ListN.{length, set, replicate}
 use lib.Ieee.{Float, binary64, add}
 use Rattle.numbers.specs.Constants.{zero64}
 use Rattle.numbers.specs.Outcome.{Outcome, outcome}
+use Rattle.util.specs.declared.reach.Reach.{Reach}
+use Rattle.util.specs.declared.reach.Reach.the-variants.{Within}
 use Rattle.util.specs.declared.delay_line.Delay.{Delay}
+use Rattle.util.specs.declared.delay_line.Read.{Read}
 use Rattle.util.specs.declared.soft_clip.SoftClip.{SoftClip}
 use Rattle.util.specs.declared.interaction.LowPassGain.{LowPassGain}
 use Rattle.util.specs.declared.interaction.AnyInteraction.{AnyInteraction}
@@ -14,7 +17,7 @@ use Rattle.util.specs.declared.comb_filter.CombFilter.{CombFilter}
 use Rattle.util.specs.declared.comb_filter.Combed.{Combed}
 use Rattle.util.specs.declared.comb_filter.Muted.{Muted}
 use Rattle.util.specs.declared.comb_filter.TunedComb.{TunedComb}
-use Rattle.util.specs.DelayLine.{nextSlot, Reading, delayedBy, inRing, done, refused}
+use Rattle.util.specs.DelayLine.{nextSlot, Reading, delayedBy, readingOf, reachIn, inRing, done, refused}
 use Rattle.util.specs.Interaction.{Step, step, Interaction, lowPassGain, softClip, anyInteraction}
 
 -- a comb with its ring
@@ -45,18 +48,23 @@ tunedStep d c ring x = comb lowPassGain softClip (delayedBy d) (tunedOver c ring
 abbrev pub combOver : CombFilter → List Float → Comb AnyInteraction AnyInteraction
 combOver c ring = record { ring = ring; position = c .cursor .position; response = c .response; limit = c .limit }
 
--- a step as an operation leaves it
-abbrev pub told : Step (Comb AnyInteraction AnyInteraction) → Outcome Combed (List Float)
-told s =
+-- a step as an operation leaves it. 02: "Comb and all-pass hand the answer on."
+abbrev pub told : Reach → Step (Comb AnyInteraction AnyInteraction) → Outcome Combed (List Float)
+told reach s =
     outcome
-    (record { verdict = done; comb = record { cursor = record { position = s .next .position }; response = s .next .response; limit = s .next .limit }; sample = s .sample })
+    (record {
+      verdict = done;
+      comb = record { cursor = record { position = s .next .position }; response = s .next .response; limit = s .next .limit };
+      sample = s .sample;
+      reach = reach;
+    })
     (s .next .ring)
 
-unfoldable pub combed : Reading → CombFilter → List Float → Float → Outcome Combed (List Float)
-combed reading c ring x =
+unfoldable pub combed : Read → CombFilter → List Float → Float → Outcome Combed (List Float)
+combed read c ring x =
     cond (inRing (c .cursor .position) (length ring))
-    (told (comb anyInteraction anyInteraction reading (combOver c ring) x))
-    (outcome (record { verdict = refused; comb = c; sample = zero64 }) ring)
+    (told (reachIn read) (comb anyInteraction anyInteraction (readingOf read) (combOver c ring) x))
+    (outcome (record { verdict = refused; comb = c; sample = zero64; reach = Within }) ring)
 
 -- "mute as in util.rs": the ring, the response and the limit; the position stays
 unfoldable pub combMuted : CombFilter → List Float → Outcome Muted (List Float)

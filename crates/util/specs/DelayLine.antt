@@ -14,12 +14,15 @@ use Rattle.numbers.specs.Ceil.{ceilOf, gapOf}
 use Rattle.numbers.specs.Outcome.{Outcome, outcome}
 use Rattle.answers.specs.Verdict.{verdictOf}
 use Rattle.answers.specs.declared.verdict.Verdict.{Verdict}
+use Rattle.util.specs.declared.reach.Reach.{Reach}
+use Rattle.util.specs.declared.reach.Reach.the-variants.{Within}
 use Rattle.util.specs.declared.delay_line.Cursor.{Cursor}
 use Rattle.util.specs.declared.delay_line.Moved.{Moved}
 use Rattle.util.specs.declared.delay_line.Tapped.{Tapped}
 use Rattle.util.specs.declared.delay_line.Delay.{Delay}
 use Rattle.util.specs.declared.delay_line.Read.{Read}
 use Rattle.util.specs.declared.delay_line.Read.the-variants.{Whole, Fract}
+use Rattle.util.specs.Reach.{reachOf}
 
 -- ---- the ring
 
@@ -43,11 +46,11 @@ delayed ring position = slot ring (position + 1)
 abbrev pub offsetOf : ℕ → Float → Float
 offsetOf slots f = mul binary64 (ofInt binary64 (pos (slots - 1))) (heldOf f zero64 one64)
 
--- "c = offset rounded up, i = c - offset"
+-- "c = offset rounded up, i = c - offset"; 02: "and answer, besides the sample, whether it was below 0, above 1, not a number, or within"
 unfoldable pub delayOf : ℕ → Float → Delay
 delayOf slots f =
     let offset = offsetOf slots f in
-    record { whole = ceilOf offset; rest = gapOf (ceilOf offset) offset }
+    record { whole = ceilOf offset; rest = gapOf (ceilOf offset) offset; reach = reachOf f }
 
 -- "result (1-i)*slot(position+length-c) + i*slot(position+length-c+1)"
 unfoldable pub delayedBy : Delay → Reading
@@ -58,10 +61,14 @@ delayedBy d ring position =
 abbrev pub delayedFract : Float → Reading
 delayedFract f ring position = delayedBy (delayOf (length ring) f) ring position
 
--- the reading that is asked for
+-- the reading that is asked for, and its answer besides the sample: the whole delay is within any ring
 abbrev pub readingOf : Read → Reading
 readingOf Whole = delayed
 readingOf (Fract f) = delayedFract f
+
+abbrev pub reachIn : Read → Reach
+reachIn Whole = Within
+reachIn (Fract f) = reachOf f
 
 -- ---- single operations
 
@@ -78,7 +85,7 @@ done = verdictOf none
 
 -- the delay of a ring of that length, and none where there is no such ring
 unfoldable pub delayAt : ℕ → Float → Delay
-delayAt slots f = cond (inRing 0 slots) (delayOf slots f) (record { whole = 0; rest = zero64 })
+delayAt slots f = cond (inRing 0 slots) (delayOf slots f) (record { whole = 0; rest = zero64; reach = Within })
 
 unfoldable pub advanced : Cursor → ℕ → Moved
 advanced c slots =
@@ -90,12 +97,12 @@ advanced c slots =
 abbrev pub advancedThere : Cursor → ℕ → Outcome Verdict Cursor
 advancedThere c slots = outcome (advanced c slots .verdict) (advanced c slots .cursor)
 
--- "a sample they would answer is then 0.0"
-unfoldable pub tapped : Reading → Cursor → List Float → Tapped
-tapped reading c ring =
+-- "a sample they would answer is then 0.0", and nothing is out of reach
+unfoldable pub tapped : Read → Cursor → List Float → Tapped
+tapped read c ring =
     cond (inRing (c .position) (length ring))
-    (record { verdict = done; sample = reading ring (c .position) })
-    (record { verdict = refused; sample = zero64 })
+    (record { verdict = done; sample = readingOf read ring (c .position); reach = reachIn read })
+    (record { verdict = refused; sample = zero64; reach = Within })
 
 unfoldable pub slotWritten : Cursor → List Float → Float → Outcome Verdict (List Float)
 slotWritten c ring x =

@@ -4,12 +4,14 @@ use crate::delay_line::Read;
 use crate::delay_line::delayed_sample;
 use crate::delay_line::in_ring;
 use crate::delay_line::slot_after;
+use crate::reach::Reach;
 use answers::verdict::Verdict;
 use answers::verdict::done;
 use answers::verdict::refusal;
 ghost use mathlib.Core.Path.{_≡_};
 ghost use Rattle.numbers.specs.Outcome.{outcome};
-ghost use Rattle.util.specs.DelayLine.{delayed, delayedFract, readingOf, muted};
+ghost use Rattle.util.specs.declared.delay_line.Read.the-variants as read;
+ghost use Rattle.util.specs.DelayLine.{muted};
 ghost use Rattle.util.specs.AllPass.{passed, fedBack};
 
 pub struct AllPassDelay {
@@ -21,6 +23,7 @@ pub struct Passed {
     pub verdict: Verdict,
     pub delay: AllPassDelay,
     pub sample: f64,
+    pub reach: Reach,
 }
 
 impl AllPassDelay {
@@ -34,14 +37,14 @@ impl AllPassDelay {
 
     // At the whole delay.
     pub fn process_sample(self, ring: &mut [f64], input: f64) -> Passed
-        ensures { λ r. ⌜ outcome r (now (ring .exit)) ≡ passed delayed self (now (ring .entry)) input ⌝ }
+        ensures { λ r. ⌜ outcome r (now (ring .exit)) ≡ passed read.Whole self (now (ring .entry)) input ⌝ }
     {
         self.process(ring, Read::Whole, input)
     }
 
     // At the delay of a fraction of the ring's length.
     pub fn process_sample_fract(self, ring: &mut [f64], fract_offset: f64, input: f64) -> Passed
-        ensures { λ r. ⌜ outcome r (now (ring .exit)) ≡ passed (delayedFract «fract_offset») self (now (ring .entry)) input ⌝ }
+        ensures { λ r. ⌜ outcome r (now (ring .exit)) ≡ passed (read.Fract «fract_offset») self (now (ring .entry)) input ⌝ }
     {
         self.process(ring, Read::Fract(fract_offset), input)
     }
@@ -55,7 +58,7 @@ impl AllPassDelay {
     }
 
     fn process(mut self, ring: &mut [f64], read: Read, input: f64) -> Passed
-        ensures { λ r. ⌜ outcome r (now (ring .exit)) ≡ passed (readingOf read) self (now (ring .entry)) input ⌝ }
+        ensures { λ r. ⌜ outcome r (now (ring .exit)) ≡ passed read self (now (ring .entry)) input ⌝ }
     {
         let slots = ring.len();
         let position = self.cursor.position;
@@ -64,17 +67,20 @@ impl AllPassDelay {
                 verdict: refusal(4),
                 delay: self,
                 sample: 0.0,
+                reach: Reach::Within,
             };
         }
         let at = slot_after(slots, position);
         let delayed = delayed_sample(ring, at, read);
-        let remembered = input + self.feedback * delayed;
+        let remembered = input + self.feedback * delayed.sample;
         ring[at] = remembered;
         self.cursor.position = at;
+        let reach = delayed.reach;
         Passed {
             verdict: done(),
             delay: self,
-            sample: delayed - remembered * self.feedback,
+            sample: delayed.sample - remembered * self.feedback,
+            reach,
         }
     }
 }

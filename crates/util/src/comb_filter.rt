@@ -8,6 +8,7 @@ use crate::delay_line::slot_after;
 use crate::delay_line::tap_at;
 use crate::interaction::AnyInteraction;
 use crate::interaction::LowPassGain;
+use crate::reach::Reach;
 use crate::soft_clip::SoftClip;
 use answers::verdict::Verdict;
 use answers::verdict::done;
@@ -17,7 +18,7 @@ ghost use mathlib.Core.Path.{_≡_};
 ghost use Prim.Native.Nat.{_<_, _≤_};
 ghost use lib.ListN.{length};
 ghost use Rattle.numbers.specs.Outcome.{outcome};
-ghost use Rattle.util.specs.DelayLine.{delayed, delayedFract, readingOf};
+ghost use Rattle.util.specs.declared.delay_line.Read.the-variants as read;
 ghost use Rattle.util.specs.Interaction.{step};
 ghost use Rattle.util.specs.Comb.{combed, combMuted, tunedOver, tunedStep};
 
@@ -31,6 +32,7 @@ pub struct Combed {
     pub verdict: Verdict,
     pub comb: CombFilter,
     pub sample: f64,
+    pub reach: Reach,
 }
 
 pub struct Muted {
@@ -41,14 +43,14 @@ pub struct Muted {
 impl CombFilter {
     // At the whole delay.
     pub fn process_sample(self, ring: &mut [f64], input: f64) -> Combed
-        ensures { λ r. ⌜ outcome r (now (ring .exit)) ≡ combed delayed self (now (ring .entry)) input ⌝ }
+        ensures { λ r. ⌜ outcome r (now (ring .exit)) ≡ combed read.Whole self (now (ring .entry)) input ⌝ }
     {
         self.process(ring, Read::Whole, input)
     }
 
     // At the delay of a fraction of the ring's length.
     pub fn process_sample_fract(self, ring: &mut [f64], fract_offset: f64, input: f64) -> Combed
-        ensures { λ r. ⌜ outcome r (now (ring .exit)) ≡ combed (delayedFract «fract_offset») self (now (ring .entry)) input ⌝ }
+        ensures { λ r. ⌜ outcome r (now (ring .exit)) ≡ combed (read.Fract «fract_offset») self (now (ring .entry)) input ⌝ }
     {
         self.process(ring, Read::Fract(fract_offset), input)
     }
@@ -78,7 +80,7 @@ impl CombFilter {
     }
 
     fn process(self, ring: &mut [f64], read: Read, input: f64) -> Combed
-        ensures { λ r. ⌜ outcome r (now (ring .exit)) ≡ combed (readingOf read) self (now (ring .entry)) input ⌝ }
+        ensures { λ r. ⌜ outcome r (now (ring .exit)) ≡ combed read self (now (ring .entry)) input ⌝ }
     {
         let slots = ring.len();
         let position = self.cursor.position;
@@ -87,17 +89,19 @@ impl CombFilter {
                 verdict: refusal(4),
                 comb: self,
                 sample: 0.0,
+                reach: Reach::Within,
             };
         }
         let at = slot_after(slots, position);
         let delayed = delayed_sample(ring, at, read);
         let response = self.response;
-        let responded = response.process_sample(delayed);
+        let responded = response.process_sample(delayed.sample);
         let limit = self.limit;
         let limited = limit.process_sample(responded.sample + input);
         ring[at] = limited.sample;
         let response = responded.next;
         let limit = limited.next;
+        let reach = delayed.reach;
         Combed {
             verdict: done(),
             comb: CombFilter {
@@ -106,6 +110,7 @@ impl CombFilter {
                 limit,
             },
             sample: responded.sample,
+            reach,
         }
     }
 }

@@ -1,4 +1,6 @@
 // The delay line: a cursor by value over a ring that the host lends. The ring's length is the slice's.
+use crate::reach::Reach;
+use crate::reach::reach_of;
 use answers::verdict::Verdict;
 use answers::verdict::done;
 use answers::verdict::refusal;
@@ -7,7 +9,8 @@ ghost use mathlib.Core.Path.{_≡_};
 ghost use Prim.Native.Nat.{_+_, _-_, _%_, _<_, _≤_};
 ghost use lib.ListN.{length};
 ghost use Rattle.numbers.specs.Outcome.{outcome};
-ghost use Rattle.util.specs.DelayLine.{inRing, nextSlot, delayed, delayedBy, delayedFract, delayAt, readingOf, advanced, tapped, slotWritten, muted};
+ghost use Rattle.util.specs.declared.delay_line.Read.the-variants as read;
+ghost use Rattle.util.specs.DelayLine.{inRing, nextSlot, delayedBy, delayAt, readingOf, reachIn, advanced, tapped, slotWritten, muted};
 
 // The slot that is written: a place of a ring where it is below the ring's length.
 #[repr(C)]
@@ -23,18 +26,26 @@ pub struct Moved {
 pub struct Tapped {
     pub verdict: Verdict,
     pub sample: f64,
+    pub reach: Reach,
 }
 
-// How far back a fractional read reaches: the offset rounded up, and what that added.
+// How far back a fractional read goes: the offset rounded up, what that added, and whether the ring reaches as far as was asked.
 pub struct Delay {
     pub whole: usize,
     pub rest: f64,
+    pub reach: Reach,
 }
 
 // How a ring is read: at the whole delay, or at a fraction of its length.
-pub(crate) enum Read {
+pub enum Read {
     Whole,
     Fract(f64),
+}
+
+// What a read answers in a ring.
+pub(crate) struct Delayed {
+    pub sample: f64,
+    pub reach: Reach,
 }
 
 // Whether a single operation on a ring is not refused.
@@ -78,13 +89,16 @@ pub fn delay_at(slots: usize, fract_offset: f64) -> Delay
         return Delay {
             whole: 0,
             rest: 0.0,
+            reach: Reach::Within,
         };
     }
     let last = std::num::nearest_u64_to_f64((slots - 1) as u64);
-    let up = numbers::ceil::rounded_up(last * numbers::small::held(fract_offset, 0.0, 1.0));
+    let held = numbers::small::held(fract_offset, 0.0, 1.0);
+    let up = numbers::ceil::rounded_up(last * held);
     Delay {
         whole: up.whole as usize,
         rest: up.gap,
+        reach: reach_of(fract_offset),
     }
 }
 
@@ -99,19 +113,23 @@ pub(crate) fn tap_at(ring: &[f64], position: usize, delay: Delay) -> f64
     (1.0 - delay.rest) * ring[first] + delay.rest * ring[second]
 }
 
-// The sample that a ring gives at a position.
-pub(crate) fn delayed_sample(ring: &[f64], position: usize, read: Read) -> f64
+// The sample that a ring gives at a position. The whole delay is within any ring.
+pub(crate) fn delayed_sample(ring: &[f64], position: usize, read: Read) -> Delayed
     requires { ⌜ (position < length (now ring)) × (length (now ring) ≤ 32768) ⌝ }
-    ensures { λ r. ⌜ r ≡ readingOf read (now (ring .entry)) position ⌝ }
+    ensures { λ r. ⌜ (r .sample ≡ readingOf read (now (ring .entry)) position) × (r .reach ≡ reachIn read) ⌝ }
 {
     match read {
         Read::Whole => {
             let next = slot_after(ring.len(), position);
-            ring[next]
+            let sample = ring[next];
+            let reach = Reach::Within;
+            Delayed { sample, reach }
         }
         Read::Fract(fract_offset) => {
             let delay = delay_at(ring.len(), fract_offset);
-            tap_at(ring, position, delay)
+            let reach = delay.reach;
+            let sample = tap_at(ring, position, delay);
+            Delayed { sample, reach }
         }
     }
 }
@@ -148,30 +166,34 @@ impl Cursor {
 
     // The sample at the whole delay: the slot after the position.
     pub fn get_delayed(self, ring: &[f64]) -> Tapped
-        ensures { λ r. ⌜ r ≡ tapped delayed self (now (ring .entry)) ⌝ }
+        ensures { λ r. ⌜ r ≡ tapped read.Whole self (now (ring .entry)) ⌝ }
     {
         self.get(ring, Read::Whole)
     }
 
-    // The sample at a fraction of the ring's length.
+    // The sample at a fraction of the ring's length, which is held to 0..1, and whether it had to be.
     pub fn get_delayed_fract(self, ring: &[f64], fract_offset: f64) -> Tapped
-        ensures { λ r. ⌜ r ≡ tapped (delayedFract «fract_offset») self (now (ring .entry)) ⌝ }
+        ensures { λ r. ⌜ r ≡ tapped (read.Fract «fract_offset») self (now (ring .entry)) ⌝ }
     {
         self.get(ring, Read::Fract(fract_offset))
     }
 
     fn get(self, ring: &[f64], read: Read) -> Tapped
-        ensures { λ r. ⌜ r ≡ tapped (readingOf read) self (now (ring .entry)) ⌝ }
+        ensures { λ r. ⌜ r ≡ tapped read self (now (ring .entry)) ⌝ }
     {
         if !in_ring(self.position, ring.len()) {
             return Tapped {
                 verdict: refusal(4),
                 sample: 0.0,
+                reach: Reach::Within,
             };
         }
+        let delayed = delayed_sample(ring, self.position, read);
+        let reach = delayed.reach;
         Tapped {
             verdict: done(),
-            sample: delayed_sample(ring, self.position, read),
+            sample: delayed.sample,
+            reach,
         }
     }
 

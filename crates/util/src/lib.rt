@@ -5,4 +5,5 @@ pub mod delay_line;
 pub mod interaction;
 pub mod lent;
 pub mod low_pass;
+pub mod reach;
 pub mod soft_clip;

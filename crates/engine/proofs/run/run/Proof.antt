@@ -17,6 +17,9 @@ judge-requires c κs = search needs
 refused-requires : tie.Need-refused-requires
 refused-requires c κs = search needs
 
+all-within-requires : tie.Need-all-within-requires
+all-within-requires c κs = search needs
+
 same-length : tie.Need-same-length
 same-length c = search needs
 
@@ -28,7 +31,9 @@ same-length-3 c = search needs
 
 returns : tie.Need-returns
 unfolding runOf afterBy
-returns c = rw (c .refused .ensures, ← (c .before .before .before .before .before .before .before .render-window .ensures)) (after-refused _ _ _ _ _ (c .before .before .before .judge .ensures) (c .before .if1 .taken))
+returns c =
+    let answer = c .before in
+    rw (answer .refused .ensures, c .all-within .ensures, ← (answer .before .before .before .before .before .before .before .render-window .ensures)) (after-refused _ _ _ _ _ (answer .before .before .before .judge .ensures) (answer .before .if1 .taken))
 
 run-order-requires : tie.Need-run-order-requires
 run-order-requires c κs =
@@ -60,6 +65,7 @@ run-spec =
     render-window-requires
     judge-requires
     refused-requires
+    all-within-requires
     same-length
     same-length-2
     same-length-3

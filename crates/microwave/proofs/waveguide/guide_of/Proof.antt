@@ -19,18 +19,15 @@ delay-samples-requires c κs = search needs
 nearest-u64-to-f64-requires : tie.Need-nearest-u64-to-f64-requires
 nearest-u64-to-f64-requires c κs = search needs
 
-held-requires : tie.Need-held-requires
-held-requires c κs = search needs
-
 delay-over-requires : tie.Need-delay-over-requires
 delay-over-requires c κs = search needs
 
 returns : tie.Need-returns
 unfolding guideOf
 returns c =
-    let s = c .before .before .before in
+    let s = c .before .before in
     simp
-    (c .delay-over .ensures, c .before .held .ensures, c .before .before .nearest-u64-to-f64 .ensures, s .delay-samples .ensures, s .before .length-factor .ensures, s .before .before .feedback-factor .ensures, s .before .before .before .new .ensures)
+    (c .delay-over .ensures, c .before .nearest-u64-to-f64 .ensures, s .delay-samples .ensures, s .before .length-factor .ensures, s .before .before .feedback-factor .ensures, s .before .before .before .new .ensures)
 
 pub guide-of-spec : {M : Type 1} → statement M
 guide-of-spec =
@@ -41,6 +38,5 @@ guide-of-spec =
     length-factor-requires
     delay-samples-requires
     nearest-u64-to-f64-requires
-    held-requires
     delay-over-requires
     returns)

@@ -6,11 +6,11 @@ use Rattle.replay.proofs.session.answer_windows.Statement.{statement}
 use Rattle.replay.proofs.session.answer_windows.Tie as tie
 
 abbrev Inv-loop : tie.InvT-loop
-Inv-loop with-states patch input₀ output₀ internal₀ external₀ zeros values₀ rings₀ session₀ place₀ left₀ input output internal external values rings session place left =
+Inv-loop wanted patch input₀ output₀ internal₀ external₀ zeros values₀ rings₀ session₀ place₀ left₀ input output internal external values rings session place left =
     (length internal ≡ length internal₀) × (length external ≡ length external₀) × (length values ≡ length values₀) × (length rings ≡ length rings₀)
 
 abbrev μ-loop : tie.MeasureT-loop
-μ-loop with-states patch input₀ output₀ internal₀ external₀ zeros values₀ rings₀ session₀ place₀ left₀ input output internal external values rings session place left = left
+μ-loop wanted patch input₀ output₀ internal₀ external₀ zeros values₀ rings₀ session₀ place₀ left₀ input output internal external values rings session place left = left
 
 next-requires : tie.Need-next-requires Inv-loop μ-loop
 next-requires c κs = search needs

@@ -27,13 +27,17 @@ held-requires c κs = search needs
 rounded-up-requires : tie.Need-rounded-up-requires
 rounded-up-requires c κs = search needs
 
+reach-of-requires : tie.Need-reach-of-requires
+reach-of-requires c κs = search needs
+
 returns-2 : tie.Need-returns-2
 unfolding delayAt
 returns-2 c =
-    let ring = c .before .before .before in
+    let up = c .before in
+    let ring = up .before .before .before in
     simp (holds (ring .before .in-ring .ensures) (ring .if1 .left))
     (delay-made _ _ (within _ _ (ring .before .in-ring .ensures) (ring .if1 .left) .small)
-    (c .before .before .nearest-u64-to-f64 .ensures) (c .before .held .ensures) (c .rounded-up .ensures))
+    (up .before .before .nearest-u64-to-f64 .ensures) (up .before .held .ensures) (up .rounded-up .ensures) (c .reach-of .ensures))
 
 pub delay-at-spec : {M : Type 1} → statement M
 delay-at-spec =
@@ -45,4 +49,5 @@ delay-at-spec =
     nearest-u64-to-f64-requires
     held-requires
     rounded-up-requires
+    reach-of-requires
     returns-2)

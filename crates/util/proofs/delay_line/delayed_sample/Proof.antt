@@ -1,8 +1,9 @@
 -- `util::delay_line::delayed_sample` meets its contract: by the way that the ring is read; a fraction's delay is within the ring. Assumes nothing.
 use lib.ListN.{length}
 use denote.Ref.{now}
+use Rattle.util.specs.declared.delay_line.Delay.{Delay}
 use Rattle.util.specs.DelayLine.{delayOf}
-use mathlib.Core.Path.{_≡_, _∙_}
+use mathlib.Core.Path.{_≡_, refl, ap, _∙_}
 use native.Mathlib.Omega.{arith}
 use Rattle.util.proofs.Delay.{delay-there, delay-below}
 use borrow.Author.Needs.{needs}
@@ -19,11 +20,11 @@ enum-told c = search needs
 slot-after-requires : tie.Need-slot-after-requires
 slot-after-requires c κs = search needs
 
-mul-result : tie.Need-mul-result
-mul-result c = search needs
+mul-sample : tie.Need-mul-sample
+mul-sample c = search needs
 
-shared-slice-read-result : tie.Need-shared-slice-read-result
-shared-slice-read-result c = search needs
+shared-slice-read-sample : tie.Need-shared-slice-read-sample
+shared-slice-read-sample c = search needs
 
 enum-known-read : tie.Need-enum-known-read
 enum-known-read c = search needs
@@ -35,10 +36,13 @@ tap-at-requires : tie.Need-tap-at-requires
 tap-at-requires c κs = (omega arith, omega arith, rw (delay-is c) (delay-below _ _ (omega arith) (omega arith)))
 
 returns : tie.Need-returns
-returns c = rw (c .before .before .enum-told .given .1, c .before .slot-after .ensures .0)
+returns c = (rw (c .before .before .enum-told .given .1, c .before .slot-after .ensures .0), rw (c .before .before .enum-told .given .1))
 
 returns-2 : tie.Need-returns-2
-returns-2 c = rw (c .before .before .before .read .given .1) (rw (← delay-is (c .before)) (c .tap-at .ensures))
+returns-2 c = (
+  rw (c .before .before .before .read .given .1) (rw (← delay-is (c .before)) (c .tap-at .ensures)),
+  rw (c .before .before .before .read .given .1) (ap (λ (d : Delay). d .reach) (delay-is (c .before)) ∙ (unfold delayOf in refl)),
+)
 
 pub delayed-sample-spec : {M : Type 1} → statement M
 delayed-sample-spec =
@@ -46,8 +50,8 @@ delayed-sample-spec =
     (tie.spec
     enum-told
     slot-after-requires
-    mul-result
-    shared-slice-read-result
+    mul-sample
+    shared-slice-read-sample
     enum-known-read
     delay-at-requires
     tap-at-requires

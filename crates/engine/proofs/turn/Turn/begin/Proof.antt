@@ -22,7 +22,9 @@ same-length-3 : tie.Need-same-length-3
 same-length-3 c = search needs
 
 returns : tie.Need-returns
-returns c = begun-at (c .before .before .before .before .before .before .before .before .enum-told .given .1) _ _ _ (c .before .before .before .before .render .ensures)
+returns c =
+    let rendered = c .before .before .before .before in
+    (rendered .render .ensures .0, begun-at (rendered .before .before .before .before .enum-told .given .1) _ _ _ (rendered .render .ensures .1))
 
 enum-told-2 : tie.Need-enum-told-2
 enum-told-2 c = search needs
@@ -42,7 +44,9 @@ same-length-6 : tie.Need-same-length-6
 same-length-6 c = search needs
 
 returns-2 : tie.Need-returns-2
-returns-2 c = begun-at (c .before .before .before .before .before .before .before .before .enum-told2 .given .1) _ _ _ (c .before .before .before .before .render2 .ensures)
+returns-2 c =
+    let rendered = c .before .before .before .before in
+    (rendered .render2 .ensures .0, begun-at (rendered .before .before .before .before .enum-told2 .given .1) _ _ _ (rendered .render2 .ensures .1))
 
 pub begin-spec : {M : Type 1} → statement M
 begin-spec =

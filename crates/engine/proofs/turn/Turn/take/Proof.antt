@@ -28,7 +28,8 @@ same-length-3 c = search needs
 
 returns : tie.Need-returns
 returns c =
-    one-done _ _ _ _ _ _ _ _ (c .before .before .before .before .before .before .before .before .before .before .begin .ensures) (sym (c .enum-told .given .1) ∙ c .before .before .second .ensures)
+    let begun = c .before .before .before .before .before .before .before .before .before .before in
+    (begun .begin .ensures .0, one-done _ _ _ _ _ _ _ _ (begun .begin .ensures .1) (sym (c .enum-told .given .1) ∙ c .before .before .second .ensures))
 
 enum-told-2 : tie.Need-enum-told-2
 enum-told-2 c = search needs
@@ -37,7 +38,7 @@ render-second-requires : tie.Need-render-second-requires
 render-second-requires c κs =
     let side = c .before .before .before .before .before in
     let begun = side .before .before .before .before .before .before .before .before .before .before in
-    second-wired _ _ _ _ _ _ _ _ (begun .begin .ensures) (begun .before .before .before .before .before .before .before .before .pre) (begun .begin .kept .1 .1 .1 .0) (begun .begin .kept .1 .1 .1 .1 .0)
+    second-wired _ _ _ _ _ _ _ _ (begun .begin .ensures .1) (begun .before .before .before .before .before .before .before .before .pre) (begun .begin .kept .1 .1 .1 .0) (begun .begin .kept .1 .1 .1 .1 .0)
     (sym (side .side .given .1) ∙ side .before .before .second .ensures) (c .before .before .enum-told2 .given .1)
 
 same-length-4 : tie.Need-same-length-4
@@ -52,9 +53,11 @@ same-length-6 c = search needs
 returns-2 : tie.Need-returns-2
 returns-2 c =
     let side = c .before .before .before .before .before .before .before .before in
-    let begun = side .before .before .before .before .before .before .before .before .before .before in
-    second-done _ _ _ _ _ _ _ _ (begun .begin .ensures) (begun .before .before .before .before .before .before .before .before .pre) (begun .begin .kept .1 .1 .1 .0) (begun .begin .kept .1 .1 .1 .1 .0)
-    (sym (side .side .given .1) ∙ side .before .before .second .ensures) (c .before .before .before .before .before .enum-told2 .given .1) _ (c .before .before .render-second .ensures)
+    let begun = side .before .before .before .before .before .before .before .before .before .before in (
+      begun .begin .ensures .0,
+      second-done _ _ _ _ _ _ _ _ (begun .begin .ensures .1) (begun .before .before .before .before .before .before .before .before .pre) (begun .begin .kept .1 .1 .1 .0) (begun .begin .kept .1 .1 .1 .1 .0)
+          (sym (side .side .given .1) ∙ side .before .before .second .ensures) (c .before .before .before .before .before .enum-told2 .given .1) _ (c .before .before .render-second .ensures),
+    )
 
 enum-told-3 : tie.Need-enum-told-3
 enum-told-3 c = search needs
@@ -63,7 +66,7 @@ render-second-requires-2 : tie.Need-render-second-requires-2
 render-second-requires-2 c κs =
     let side = c .before .before .before .before .before in
     let begun = side .before .before .before .before .before .before .before .before .before .before in
-    second-wired _ _ _ _ _ _ _ _ (begun .begin .ensures) (begun .before .before .before .before .before .before .before .before .pre) (begun .begin .kept .1 .1 .1 .0) (begun .begin .kept .1 .1 .1 .1 .0)
+    second-wired _ _ _ _ _ _ _ _ (begun .begin .ensures .1) (begun .before .before .before .before .before .before .before .before .pre) (begun .begin .kept .1 .1 .1 .0) (begun .begin .kept .1 .1 .1 .1 .0)
     (sym (side .side .given .1) ∙ side .before .before .second .ensures) (c .before .before .enum-told3 .given .1)
 
 same-length-7 : tie.Need-same-length-7
@@ -78,9 +81,11 @@ same-length-9 c = search needs
 returns-3 : tie.Need-returns-3
 returns-3 c =
     let side = c .before .before .before .before .before .before .before .before in
-    let begun = side .before .before .before .before .before .before .before .before .before .before in
-    second-done _ _ _ _ _ _ _ _ (begun .begin .ensures) (begun .before .before .before .before .before .before .before .before .pre) (begun .begin .kept .1 .1 .1 .0) (begun .begin .kept .1 .1 .1 .1 .0)
-    (sym (side .side .given .1) ∙ side .before .before .second .ensures) (c .before .before .before .before .before .enum-told3 .given .1) _ (c .before .before .render-second2 .ensures)
+    let begun = side .before .before .before .before .before .before .before .before .before .before in (
+      begun .begin .ensures .0,
+      second-done _ _ _ _ _ _ _ _ (begun .begin .ensures .1) (begun .before .before .before .before .before .before .before .before .pre) (begun .begin .kept .1 .1 .1 .0) (begun .begin .kept .1 .1 .1 .1 .0)
+          (sym (side .side .given .1) ∙ side .before .before .second .ensures) (c .before .before .before .before .before .enum-told3 .given .1) _ (c .before .before .render-second2 .ensures),
+    )
 
 pub take-spec : {M : Type 1} → statement M
 take-spec =

@@ -37,7 +37,11 @@ same-length c = search needs
 
 returns-2 : tie.Need-returns-2
 unfolding passed
-returns-2 c = simp (holds (c .before .before .before .before .before .before .before .before .in-ring .ensures) (c .before .before .before .before .before .before .before .if1 .left), c .before .before .before .before .delayed-sample .ensures, c .before .before .before .before .before .before .slot-after .ensures .0, c .before .done .ensures)
+returns-2 c =
+    let told = c .before .before in
+    let delayed = told .before .before .before .before in
+    let ring = delayed .before .before .before in
+    simp (holds (ring .before .in-ring .ensures) (ring .if1 .left), delayed .delayed-sample .ensures .0, delayed .delayed-sample .ensures .1, delayed .before .before .slot-after .ensures .0, told .done .ensures)
 
 pub process-spec : {M : Type 1} → statement M
 process-spec =

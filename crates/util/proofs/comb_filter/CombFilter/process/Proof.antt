@@ -3,7 +3,7 @@ use mathlib.Core.Path.{ap}
 use native.Mathlib.Omega.{arith}
 use denote.Ref.{now}
 use Rattle.answers.proofs.Tests.{holds, fails}
-use Rattle.util.specs.DelayLine.{readingOf}
+use Rattle.util.specs.DelayLine.{readingOf, reachIn}
 use Rattle.util.specs.Interaction.{anyInteraction}
 use Rattle.util.specs.Comb.{combed, combOver, told}
 use Rattle.util.proofs.Ring.{within}
@@ -50,8 +50,9 @@ returns-2 : tie.Need-returns-2
 unfolding combed
 returns-2 c =
     let a = c .before .before .before .before .before .before .before .before .before .before .args in
-    simp (holds (c .before .before .before .before .before .before .before .before .in-ring .ensures) (c .before .before .before .before .before .before .before .if1 .left), c .done .ensures)
-    (ap told (comb-is anyInteraction anyInteraction (readingOf (a .read)) (combOver (a .self) (now (a .ring))) (a .input) (c .before .before .before .before .before .before .slot-after .ensures .0) (c .before .before .before .before .delayed-sample .ensures) (c .before .before .before .process-sample .ensures) (c .before .process-sample2 .ensures)))
+    let delayed = c .before .before .before .before .delayed-sample .ensures in
+    simp (holds (c .before .before .before .before .before .before .before .before .in-ring .ensures) (c .before .before .before .before .before .before .before .if1 .left), c .done .ensures, delayed .1)
+    (ap (told (reachIn (a .read))) (comb-is anyInteraction anyInteraction (readingOf (a .read)) (combOver (a .self) (now (a .ring))) (a .input) (c .before .before .before .before .before .before .slot-after .ensures .0) (delayed .0) (c .before .before .before .process-sample .ensures) (c .before .process-sample2 .ensures)))
 
 pub process-spec : {M : Type 1} → statement M
 process-spec =

@@ -17,15 +17,15 @@ returns : tie.Need-returns
 unfolding tapped
 returns c = simp (fails (c .before .before .in-ring .ensures) (c .before .if1 .taken), c .refusal .ensures)
 
+delayed-sample-requires : tie.Need-delayed-sample-requires
+delayed-sample-requires c κs = omega (arith, within _ _ (c .before .in-ring .ensures) (c .if1 .left))
+
 done-requires : tie.Need-done-requires
 done-requires c κs = search needs
 
-delayed-sample-requires : tie.Need-delayed-sample-requires
-delayed-sample-requires c κs = omega (arith, within _ _ (c .before .before .in-ring .ensures) (c .before .if1 .left))
-
 returns-2 : tie.Need-returns-2
 unfolding tapped
-returns-2 c = simp (holds (c .before .before .before .in-ring .ensures) (c .before .before .if1 .left), c .before .done .ensures, c .delayed-sample .ensures)
+returns-2 c = simp (holds (c .before .before .before .in-ring .ensures) (c .before .before .if1 .left), c .done .ensures, c .before .delayed-sample .ensures .0, c .before .delayed-sample .ensures .1)
 
 pub get-spec : {M : Type 1} → statement M
-get-spec = tie.close (tie.spec in-ring-requires refusal-requires returns done-requires delayed-sample-requires returns-2)
+get-spec = tie.close (tie.spec in-ring-requires refusal-requires returns delayed-sample-requires done-requires returns-2)

@@ -1,0 +1,2 @@
+-- Laws that the proofs of `stages::machine` alone cite.
+mod Ringless
