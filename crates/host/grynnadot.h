@@ -220,13 +220,13 @@ typedef struct {
  * A ring can go back by 0 to buffer_size, 0 and buffer_size among them. What to do where it is not within:
  *      above             the note is too low for the ring and sounds too high, at buffer_size samples: give the string a buffer_size of at
  *                        least the samples above, up to 32,767
- *      below             the low-pass alone takes longer than the note, and the oldest sample sounds, buffer_size + 1 back: raise the cutoff
- *                        or lower the note; no ring helps
+ *      below             the low-pass alone takes longer than the note, and the oldest sample sounds, buffer_size + 1 back: raise the
+ *                        cutoff or lower the note; no ring helps
  *      not a number      frequency, cutoff or width are none, or give 0/0 or the like; the oldest sample sounds */
 enum { GRYNNADOT_WITHIN, GRYNNADOT_BELOW, GRYNNADOT_ABOVE, GRYNNADOT_NOT_A_NUMBER };
 
-/* `reach` tells it of each stage by its number, as of the last sample of the window. It is 0, within, for every stage that is no waveguide or
- * is not in the order, where the window is empty, and where the run was refused. A string that does not reach its note is not refused. */
+/* `reach` tells it of each stage by its number, as of the last sample of the window. It is 0, within, for every stage that is no waveguide
+ * or is not in the order, where the window is empty, and where the run was refused. A string that does not reach its note is not refused. */
 typedef struct {
     grynnadot_answer answer;
     grynnadot_pools pools;

@@ -1,8 +1,10 @@
 /* One window of a sawtooth through the static library, as the program `rendersaw` renders it: frequency 1, eight samples of an eighth of a
  * second, into internal buffer 0. Then a stage of an unknown kind, which is refused. Then a ring's cursor, which is lent and changed where it
- * stands, or refused and left as it was. Last a sound that is placed between left and right, or refused. */
+ * stands, or refused and left as it was. Then a sound that is placed between left and right, or refused. Last strings that reach their
+ * notes or do not. */
 #include "grynnadot.h"
 
+#include <math.h>
 #include <stdio.h>
 #include <string.h>
 
@@ -11,7 +13,8 @@ _Static_assert(sizeof(grynnadot_patch) == 5128, "patch");
 _Static_assert(sizeof(grynnadot_read) == 5144, "read");
 _Static_assert(sizeof(grynnadot_pools) == 72, "pools");
 _Static_assert(sizeof(grynnadot_states) == 2816, "states");
-_Static_assert(sizeof(grynnadot_ran) == 2912, "ran");
+_Static_assert(sizeof(grynnadot_ran) == 2944, "ran");
+_Static_assert(offsetof(grynnadot_ran, reach) == 2912, "reach");
 _Static_assert(sizeof(grynnadot_cursor) == 8, "cursor");
 
 enum { WINDOW = 8 };
@@ -106,6 +109,45 @@ static bool pan_is_refused(void) {
            refused_with(7, 1, 0, half, WINDOW);
 }
 
+enum { STRINGS = 6, SLOTS = 402 + 301 + 301 + 1 + 301 + 301 };
+
+/* A string at 44,100 samples a second, bright enough that its low-pass takes no time. */
+static grynnadot_stage string(size_t buffer_size, double frequency) {
+    return (grynnadot_stage){
+        .kind = GRYNNADOT_WAVEGUIDE,
+        .buffer_size = buffer_size,
+        .output = 2,
+        .first = {.mark = GRYNNADOT_NUMBER, .number = frequency},
+        .second = {.mark = GRYNNADOT_NUMBER, .number = 44100.0},
+        .third = {.mark = GRYNNADOT_NUMBER, .number = 0.9},
+    };
+}
+
+/* Whether a window of n samples of these strings answers that number, and tells that of each stage. 110 Hz asks for 400.9 samples, 148 Hz
+ * for 298; a frequency below 0 asks for fewer than none. */
+static bool tells(const uint8_t *strings, size_t count, size_t n, size_t number, const uint8_t reach[32]) {
+    static double rings[SLOTS];
+    const grynnadot_patch patch = {
+        .count = STRINGS,
+        .stages = {string(401, 110.0), string(300, 148.0), string(300, 110.0), string(0, 110.0), string(300, -110.0), string(300, NAN)},
+    };
+    const grynnadot_pools pools = {.internal = {.count = 2, .capacity = WINDOW, .stale = {[1] = true}}};
+    const grynnadot_ran ran = grynnadot_run(patch, strings, count, pools, grynnadot_new_states(), n, 1.0 / 44100.0, internal, 2 * WINDOW,
+                                            NULL, 0, zeros, WINDOW, rings, SLOTS, NULL, 0);
+    return ran.answer.number == number && memcmp(ran.reach, reach, 32) == 0;
+}
+
+/* Of all strings, the last first; of one of them; in an empty window; and refused, since one is named twice. */
+static bool reach_is_told(void) {
+    const uint8_t all[STRINGS] = {5, 4, 3, 2, 1, 0};
+    const uint8_t twice[] = {2, 2};
+    const uint8_t told[32] = {[2] = GRYNNADOT_ABOVE, [3] = GRYNNADOT_ABOVE, [4] = GRYNNADOT_BELOW, [5] = GRYNNADOT_NOT_A_NUMBER};
+    const uint8_t one[32] = {[2] = GRYNNADOT_ABOVE};
+    const uint8_t nothing[32] = {GRYNNADOT_WITHIN};
+    return tells(all, STRINGS, WINDOW, 0, told) && tells(twice, 1, WINDOW, 0, one) && tells(all, STRINGS, 0, 0, nothing) &&
+           tells(twice, 2, WINDOW, 3, nothing);
+}
+
 int main(void) {
     grynnadot_patch patch = {.count = 1};
     patch.stages[0] = (grynnadot_stage){
@@ -125,11 +167,15 @@ int main(void) {
     }
     patch.stages[0].kind = GRYNNADOT_PAN + 1;
     const grynnadot_ran refused = render(patch);
-    if (refused.answer.number != 22 || refused.answer.stage != 0 || !refused.pools.internal.stale[0]) {
+    if (refused.answer.number != 22 || refused.answer.stage != 0 || !refused.pools.internal.stale[0] ||
+        refused.reach[0] != GRYNNADOT_WITHIN) {
         return 2;
     }
     if (!cursor_advances() || !refusals_leave_the_cursor()) {
         return 3;
     }
-    return sound_is_placed() && pan_is_refused() ? 0 : 4;
+    if (!sound_is_placed() || !pan_is_refused()) {
+        return 4;
+    }
+    return reach_is_told() ? 0 : 5;
 }

@@ -4,7 +4,8 @@
  * internal buffers and 2 external ones; an hour at the most. Each slot that is named moves from its first value to its last, one value to a
  * window. External buffer 0, or internal buffer 0 where no stage has an external output, goes to standard output, each sample as the eight
  * bytes of an f64, low byte first. Where a stage writes external buffer 1, there are two channels: external buffers 0 and 1, left and right,
- * sample by sample. What is refused is told on standard error, and the status is then 1. */
+ * sample by sample. What is refused is told on standard error, and the status is then 1. A string that ceases to reach its note is told
+ * there too, and sounds on. */
 #include "grynnadot.h"
 
 #include <stdio.h>
@@ -31,6 +32,7 @@ typedef struct {
     grynnadot_patch patch;
     grynnadot_pools pools;
     grynnadot_states states;
+    uint8_t reach[STAGES];
 } engine;
 
 /* Of a file that is longer than the lent bytes the first ones are enough: no patch has so many, and something is refused in them. */
@@ -93,6 +95,17 @@ static size_t heard(const engine *engine, size_t n, double *sound) {
     return channels * n;
 }
 
+/* Tells which strings do not reach their notes any longer, or otherwise than in the window before. */
+static void tell_reach(engine *engine, const uint8_t *reach) {
+    static const char *const told[] = {"within", "below", "above", "not a number"};
+    for (size_t k = 0; k < STAGES; k++) {
+        if (reach[k] != engine->reach[k] && reach[k] != GRYNNADOT_WITHIN) {
+            fprintf(stderr, "stage %zu: out of reach of its ring, %s\n", k, told[reach[k]]);
+        }
+        engine->reach[k] = reach[k];
+    }
+}
+
 /* A window of n samples; the external buffers have no outer engine, and so the host marks them stale. */
 static grynnadot_answer render(engine *engine, const double *values, size_t values_count, size_t n) {
     uint8_t order[STAGES];
@@ -107,6 +120,7 @@ static grynnadot_answer render(engine *engine, const double *values, size_t valu
                       CHANNELS * WINDOW, zeros, WINDOW, rings, rings_count(&engine->patch), values, values_count);
     engine->pools = ran.pools;
     engine->states = ran.states;
+    tell_reach(engine, ran.reach);
     return ran.answer;
 }
 

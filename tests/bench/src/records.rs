@@ -78,6 +78,7 @@ pub struct Ran {
     pub answer: Answer,
     pub pools: Pools,
     pub states: States,
+    pub reach: [u8; 32],
 }
 
 #[derive(Clone, Copy)]
