@@ -1,15 +1,18 @@
 """Sorts 3 to 7: the parts of util.rs, 500 instances of each over 50 samples."""
 import random
-from words import INFINITY, NAN, SIGN, bits, number, sample
+from words import INFINITY, NAN, NANS, SIGN, bits, number, sample
 
 INSTANCES, SAMPLES = 500, 50
 LENGTHS = [1, 2, 3, 7, 64]
 LONGEST = 32768
 FRACTIONS = [bits(x) for x in (-2.0, -0.25, -1e-300, 0.0, -0.0, 5e-324, 1e-20, 0.25, 0.5, 0.49999999999999994, 0.75, 1.0,
                                1.0000000000000002, 1.5, 1e300)] + [INFINITY, INFINITY | SIGN, NAN]
+# more of them, for reads that tell what they reach
+ENDS = [bits(-5e-324), bits(0.9999999999999999), *NANS]
 RING, SOFT_CLIP, LOW_PASS, COMB, ALL_PASS = 3, 4, 5, 6, 7
-ADVANCE, ADVANCE_LENT, WRITE, DELAYED, DELAYED_FRACT, MUTE = range(6)
-PROCESS, PROCESS_FRACT, SILENCE = range(3)
+# the last of each tells what it reaches
+ADVANCE, ADVANCE_LENT, WRITE, DELAYED, DELAYED_FRACT, MUTE, DELAYED_TOLD = range(7)
+PROCESS, PROCESS_FRACT, SILENCE, PROCESS_TOLD = range(4)
 
 
 def fraction():
@@ -93,3 +96,12 @@ def cases():
     yield from filters(COMB, lambda: response() + limit())
     yield from filters(ALL_PASS, lambda: [gain()])
     yield from refused()
+
+
+def told():
+    """every fraction, asked without what it reaches and with it, at each sort over a ring, on rings of each length and on two that are refused"""
+    for ring in [ring_of(instance) for instance in range(len(LENGTHS))] + [[0, 0], [1, 1, bits(1.0)]]:
+        reads = [word for f in FRACTIONS + ENDS for word in (DELAYED_FRACT, f, DELAYED_TOLD, f)]
+        steps = [word for f in FRACTIONS + ENDS for word in (PROCESS_FRACT, f, sample(), PROCESS_TOLD, f, sample())]
+        for sort, settings, operations in ((RING, [], reads), (COMB, response() + limit(), steps), (ALL_PASS, [gain()], steps)):
+            yield [sort, *ring, *settings, 2 * len(FRACTIONS + ENDS), *operations]

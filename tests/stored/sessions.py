@@ -1,5 +1,5 @@
 """Sort 1: every kind with each of its choices, over several windows each, with its state carried from one to the next."""
-import itertools, random
+import itertools, math, random
 from words import INFINITY, NAN, SIGN, bits, near, number
 
 PLAIN, CLIP, FILTERS, OSCILLATOR, MODULATED, WAVEGUIDE, RING_MODULATOR, PAN = [0, 1], 2, range(3, 10), 10, 11, 12, 13, 14
@@ -20,6 +20,11 @@ HOSTILE = {
     'infinite and NaN': [INFINITY, INFINITY | SIGN, NAN],
 }
 WIDTH = bits(1 / 48000)
+# flags of a session: answers include states and rings, and what each stage reaches
+STATES, REACHES = 1, 2
+# at this width the low-pass of a string has a delay of 0, of 1, of infinitely many and of about -1 samples, and of 0 at the last two
+QUARTER = 0.25
+CUTOFFS = [bits(8.0), bits(1 / math.pi), 0, bits(-8.0), INFINITY, NAN]
 
 
 def kinds():
@@ -63,15 +68,15 @@ def values_of(kind, count, hostile):
     return values
 
 
-def window(n, width, values, prepared, hostile, stage=0):
-    """prepare and set both inputs, then run one stage"""
+def window(n, width, values, prepared, hostile, order=(0,)):
+    """prepare and set both inputs, then run some stages"""
     signal = lambda: [number() if hostile and random.random() < 0.1 else bits(random.uniform(-1, 1)) for _ in range(n)]
-    return [2 | prepared, n, width, 2, *signal(), 2, *signal(), *values, 1, stage]
+    return [2 | prepared, n, width, 2, *signal(), 2, *signal(), *values, len(order), *order]
 
 
-def lent(stages, capacity, values, ring):
+def lent(stages, capacity, values, ring, flags=0):
     """one internal and two external buffers, silent and not stale, and new states"""
-    head = [1, 0, 1, capacity, 2, capacity, capacity, 2 * capacity, capacity, values, ring, len(stages)]
+    head = [1, flags, 1, capacity, 2, capacity, capacity, 2 * capacity, capacity, values, ring, len(stages)]
     contents = [0] * (capacity + 2 * capacity + capacity + values + ring)
     return head + sum(stages, []) + contents + [0] * 32 + [0] * (32 * 11)
 
@@ -101,7 +106,7 @@ def wired(source, levels):
     parameters = levels + SLOT(2) + SLOT(3)
     pairs = itertools.product((OUTPUT, INPUT, OTHER, NOWHERE), repeat=2)
     stages = [[PAN, source, *outputs, *parameters] for outputs in pairs]
-    windows = [window(n, WIDTH, values_of(PAN, PAN_PARAMETERS, None), 1, None, k) for k in range(len(stages)) for n in (2, 0)]
+    windows = [window(n, WIDTH, values_of(PAN, PAN_PARAMETERS, None), 1, None, [k]) for k in range(len(stages)) for n in (2, 0)]
     return lent(stages, 2, PAN_PARAMETERS + 1, 0) + [len(windows)] + sum(windows, [])
 
 
@@ -132,3 +137,52 @@ def half_turns():
     runs += [(stage, signal) for stage in range(len(oscillators), len(oscillators + filters)) for signal in ([SIGN, SIGN], turns)]
     windows = [[3, len(signal), bits(1.0), 2, *signal, 0, 1, stage] for stage, signal in runs]
     yield lent(oscillators + filters, len(turns), 0, 0) + [len(windows)] + sum(windows, [])
+
+
+def string(reflectance, size, frequency, cutoff, source=INPUT):
+    return [WAVEGUIDE, reflectance, size, source, OUTPUT, *ABSENT, *frequency, *cutoff, *FIXED(0.5)]
+
+
+def frequencies():
+    """those of 1, 2 and 3 samples for either reflectance, next to these, and those at which a quotient turns"""
+    whole = {factor / (QUARTER * samples) for factor in (1.0, 0.5) for samples in (1, 2, 3)}
+    largest = INFINITY - 1
+    return [word for x in sorted(whole) for word in near(x)] + [0, SIGN, INFINITY, INFINITY | SIGN, largest, largest | SIGN, NAN]
+
+
+def reaching():
+    """strings of 1 to 4 cells at every edge of what they reach, none of them at the place of its number; at other widths too"""
+    sizes = range(4)
+    strings = [string(reflectance, size, SLOT(0), SLOT(1)) for reflectance in REFLECTANCES for size in sizes]
+    tunings = [(QUARTER, *tuning) for tuning in itertools.product(frequencies(), CUTOFFS)]
+    tunings += itertools.product((0.0, -QUARTER, math.nan), (0, bits(2.0), INFINITY), (0, bits(8.0)))
+    windows = [window(1, bits(width), tuning, 1, None, range(len(strings))[::-1]) for width, *tuning in tunings]
+    yield lent(strings, 1, 2, sum(size + 1 for size in sizes) * len(REFLECTANCES), REACHES) + [len(windows)] + sum(windows, [])
+
+
+def answering(x, source=INPUT):
+    """a string that is within at a frequency of 4, below 0 at -4 and above 1 at 1"""
+    return string(0, 2, FIXED(x), FIXED(8.0), source)
+
+
+def in_order():
+    """strings of each answer and a Pass, in orders of which some are refused, with samples and without, prepared or not, and in windows that
+    are too long; then over too few cells, where nothing runs, with each flag; then as many strings as a patch has"""
+    answers = within, below, above, none = [answering(x) for x in (4.0, -4.0, 1.0, math.nan)]
+    faults = [answering(1.0, source) for source in (NOWHERE, OUTPUT)] + [string(0, 2, SLOT(0), FIXED(8.0))]
+    stages = [within, below, [0, INPUT, OUTPUT, *ABSENT], above, none, *faults]
+    orders = [[0, 1, 2, 3, 4], [4, 3, 2, 1, 0], [3, 4], [1], [2], [], [3, 3], [3, 5], [4, 3, 6], [3, 7], [3, 8]]
+    first = window(3, bits(QUARTER), [], 1, None, orders[0])
+    windows = [[prepared, n, bits(QUARTER), len(order), *order] for n in (3, 0, 1, 4) for order in orders for prepared in (1, 0)]
+    few, cells = windows[:2 * len(orders)], 3 * 7
+    yield lent(stages, 3, 0, cells, REACHES) + [1 + len(windows)] + first + sum(windows, [])
+    for flags in range(STATES + REACHES + 1):
+        yield lent(stages, 3, 0, cells - 1, flags) + [len(few)] + sum(few, [])
+    most = range(32)
+    windows = [window(1, bits(QUARTER), [], 1, None, order) for order in (most[::-1], most[::-3], most[31:], [])]
+    yield lent(answers * 8, 1, 0, 3 * 32, REACHES) + [len(windows)] + sum(windows, [])
+
+
+def reaches():
+    yield from reaching()
+    yield from in_order()

@@ -2,6 +2,7 @@
 
 use magnetron::stage::StageActivity;
 
+use crate::reach::Reach;
 use crate::refusals;
 use crate::refusals::Verdict;
 use crate::tally::Tally;
@@ -66,6 +67,11 @@ impl Answer {
     pub fn activity(&mut self, activity: StageActivity) {
         self.part("activity");
         self.words.push(activity as u64);
+    }
+
+    pub fn reaches(&mut self, reaches: &[Reach]) {
+        self.part("reach");
+        self.words.extend(reaches.iter().map(|&reach| reach as u64));
     }
 
     /// What the word at `index` is: the part, which of its name, and the word's place in it.

@@ -22,6 +22,7 @@ pub type Column = (&'static str, Numbers);
 pub fn ask(
     compare: &Compare,
     families: impl Iterator<Item = Family>,
+    counted: fn(&Tally) -> &Numbers,
 ) -> Result<Option<(Vec<Column>, Tally)>, Box<dyn Error>> {
     let (mut columns, mut tally) = (Vec::new(), Tally::default());
     for Family { name, cases, .. } in families {
@@ -30,15 +31,15 @@ pub fn ask(
             println!("{different}");
             return Ok(None);
         }
-        columns.push((name, report.tally.outcomes.clone()));
+        columns.push((name, counted(&report.tally).clone()));
         tally.add(report.tally);
     }
     Ok(Some((columns, tally)))
 }
 
 /// Numbers down, columns across.
-pub fn print_table(columns: &[Column]) {
-    print!("refusal");
+pub fn print_table(what: &str, columns: &[Column]) {
+    print!("{what:7}");
     columns.iter().for_each(|(name, _)| print!("{name:>15}"));
     let met: BTreeSet<u64> = columns.iter().flat_map(|(_, numbers)| numbers.keys().copied()).collect();
     for number in met {

@@ -11,10 +11,10 @@ use crate::small::files;
 /// Whether every file is read or refused as document 02 says.
 pub fn run(compare: &Compare) -> Result<bool, Box<dyn Error>> {
     let begin = Instant::now();
-    let Some((columns, _)) = families::ask(compare, FAMILIES.into_iter())? else {
+    let Some((columns, _)) = families::ask(compare, FAMILIES.into_iter(), |tally| &tally.outcomes)? else {
         return Ok(false);
     };
-    families::print_table(&columns);
+    families::print_table("refusal", &columns);
     println!(
         "every number, every offset and every patch as document 02 says, {:.0} s\n",
         begin.elapsed().as_secs_f64()

@@ -4,6 +4,7 @@ mod answer;
 mod case;
 mod compare;
 mod differences;
+mod edges;
 mod families;
 mod files;
 mod half_turns;
@@ -20,6 +21,8 @@ mod pools;
 mod program;
 mod random;
 mod random_pools;
+mod reach;
+mod reached;
 mod refusals;
 mod refused;
 mod session;
@@ -57,6 +60,7 @@ oracle compare ASKED [--cases N] [--seed N] [--sort S]
 oracle differences ASKED [--inputs]
 oracle files ASKED
 oracle half-turns ASKED
+oracle reach ASKED
 oracle refused ASKED [--sort S]
 oracle orders ASKED [--cases N] [--seed N] [--new-states]
 where ASKED is [--replay PROGRAM] [--start PROGRAM] [--failing FILE]";
@@ -91,6 +95,7 @@ fn run() -> Result<bool, Box<dyn Error>> {
         "differences" => differences(Options::new(words, &ASKED, &["inputs"])?),
         "files" => files::run(&asked(&Options::new(words, &ASKED, &[])?)?),
         "half-turns" => half_turns::run(&asked(&Options::new(words, &ASKED, &[])?)?.program),
+        "reach" => reached::run(&asked(&Options::new(words, &ASKED, &[])?)?),
         "orders" => orders(Options::new(words, &[&ASKED[..], &["cases", "seed"]].concat(), &["new-states"])?),
         "refused" => refused(Options::new(words, &[&ASKED[..], &["sort"]].concat(), &[])?),
         _ => Err(USAGE.into()),

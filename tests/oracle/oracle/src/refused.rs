@@ -22,7 +22,8 @@ use crate::tally::Numbers;
 /// Whether all is as document 01's table says. For one sort of cases the program alone is asked.
 pub fn run(compare: &Compare, sort: Option<u64>) -> Result<bool, Box<dyn Error>> {
     let asked_for = |family: &Family| sort.is_none_or(|sort| family.sorts.contains(&sort));
-    let Some((mut columns, tally)) = families::ask(compare, FAMILIES.into_iter().filter(asked_for))? else {
+    let families = FAMILIES.into_iter().filter(asked_for);
+    let Some((mut columns, tally)) = families::ask(compare, families, |tally| &tally.outcomes)? else {
         return Ok(false);
     };
     if sort.is_none() {
@@ -36,7 +37,7 @@ pub fn run(compare: &Compare, sort: Option<u64>) -> Result<bool, Box<dyn Error>>
         };
         columns.extend([("asked of Rust", asked), ("it panics", panicked)]);
     }
-    families::print_table(&columns);
+    families::print_table("refusal", &columns);
     println!("every number, every stage and all that was lent as the table says\n");
     Ok(true)
 }

@@ -2,6 +2,8 @@
 
 use std::collections::BTreeMap;
 
+use crate::reach::Reach;
+
 /// How many there are of each number.
 pub type Numbers = BTreeMap<u64, u64>;
 
@@ -13,6 +15,8 @@ pub struct Tally {
     pub crossed: BTreeMap<[&'static str; 4], u64>,
     /// The outcomes by their number.
     pub outcomes: Numbers,
+    /// What strings and rings were told to reach, by its number.
+    pub reaches: Numbers,
     /// How many samples stages have put out.
     pub rendered: u64,
 }
@@ -26,6 +30,10 @@ impl Tally {
 
     pub fn cross(&mut self, circumstances: [&'static str; 4]) {
         *self.crossed.entry(circumstances).or_default() += 1;
+    }
+
+    pub fn reach(&mut self, reach: Reach) {
+        *self.reaches.entry(reach as u64).or_default() += 1;
     }
 
     pub fn sample(&mut self, sample: f64) {
@@ -48,6 +56,7 @@ impl Tally {
         other.met.into_iter().for_each(|(thing, count)| *self.met.entry(thing).or_default() += count);
         other.crossed.into_iter().for_each(|(thing, count)| *self.crossed.entry(thing).or_default() += count);
         other.outcomes.into_iter().for_each(|(number, count)| *self.outcomes.entry(number).or_default() += count);
+        other.reaches.into_iter().for_each(|(number, count)| *self.reaches.entry(number).or_default() += count);
         self.rendered += other.rendered;
     }
 }

@@ -158,15 +158,17 @@ impl Values {
         }
     }
 
-    /// A fraction of a ring: whole and half steps of it with their neighbours, and anything around 0 to 1.
+    /// A fraction of a ring: whole and half steps of it with their neighbours, its ends, anything around 0 to 1, and what no ring
+    /// has.
     fn fraction(&mut self, odd: bool) -> f64 {
         let steps = self.ring.max(2) - 1;
-        match odd {
-            true => self.random.uniform(-0.2, 1.2),
-            false => {
-                let step = self.random.below(2 * steps + 1) as f64 / 2.0 / steps as f64;
-                self.neighbour(step)
-            }
+        let step = self.random.below(2 * steps + 1) as f64 / 2.0 / steps as f64;
+        let end = self.random.pick(&[0.0, 1.0]);
+        match self.random.below(16) {
+            0 => self.random.pick(&[-0.0, f64::INFINITY, f64::NEG_INFINITY, f64::NAN]),
+            1..4 => self.neighbour(end),
+            _ if odd => self.random.uniform(-0.2, 1.2),
+            _ => self.neighbour(step),
         }
     }
 
@@ -184,7 +186,7 @@ impl Values {
         }
     }
 
-    fn neighbour(&mut self, x: f64) -> f64 {
+    pub fn neighbour(&mut self, x: f64) -> f64 {
         self.random.pick(&[x, x, x.next_up(), x.next_down()])
     }
 }

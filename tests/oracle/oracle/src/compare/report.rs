@@ -10,6 +10,7 @@ use crate::session::WINDOWS;
 use crate::session::kind;
 use crate::session::kind::KINDS;
 use crate::session::rarest_pair;
+use crate::session::rarest_string;
 use crate::tally::Tally;
 
 #[derive(Default)]
@@ -83,7 +84,9 @@ impl Report {
             }
         }
         let (pairs, rarest) = rarest_pair(&self.tally);
-        writeln!(f, "\nholes in this table: {holes}\n\nPan's outputs: {pairs} ways, {rarest} of the rarest")
+        writeln!(f, "\nholes in this table: {holes}\n\nPan's outputs: {pairs} ways, {rarest} of the rarest")?;
+        let (strings, rarest) = rarest_string(&self.tally);
+        writeln!(f, "strings that tell their reach: {strings} ways, {rarest} of the rarest")
     }
 
     /// The parts, and refusals.

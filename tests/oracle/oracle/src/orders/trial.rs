@@ -39,6 +39,7 @@ impl Trial {
         while session.rings.len() > MOST_SHOWN || session.windows.iter().all(|window| window.order.len() < 2) {
             session = Session::random(&mut values, refused);
         }
+        session.with_reaches = true;
         if !new_states {
             start_anywhere(&mut values, &mut session);
         }

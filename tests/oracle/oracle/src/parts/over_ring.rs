@@ -7,7 +7,10 @@ use microwave::magnetron::util::DelayLine;
 use crate::answer::Answer;
 use crate::answer::Answered;
 use crate::case::Sort;
+use crate::edges;
 use crate::lengths::MOST_CELLS;
+use crate::reach;
+use crate::reach::Reach;
 use crate::refusals;
 use crate::shrink::fewer;
 use crate::values::Role;
@@ -21,6 +24,9 @@ pub trait Operation: Clone + Debug + Default + Pass {
     fn random(values: &mut Values) -> Self;
 
     fn name(&self) -> &'static str;
+
+    /// The number that the ring is asked for, where it is told what it reaches.
+    fn told(&self) -> Option<f64>;
 }
 
 /// What works on a ring, one operation at a time.
@@ -85,7 +91,8 @@ impl<S: Settings> Sort for OverRing<S> {
         },
     ];
 
-    /// The number, stage and sample of each operation, then position, cells and memory at the end.
+    /// The number, stage and sample of each operation, and what it reaches where that is told; then position, cells and memory
+    /// at the end.
     fn answer(&self, answer: &mut Answer) -> Answered {
         let verdict = refusals::ring(self.cells.len(), self.position);
         let line = || DelayLine { buffer: self.cells.clone(), position: self.position as usize };
@@ -94,6 +101,12 @@ impl<S: Settings> Sort for OverRing<S> {
             answer.verdict(verdict);
             let sample = machine.as_mut().map_or(0.0, |machine| machine.step(operation));
             answer.samples("sample", &[sample]);
+            if let Some(number) = operation.told() {
+                let reach = verdict.map_or(Reach::Within, |()| reach::of(number));
+                answer.reaches(&[reach]);
+                answer.tally.meet("reach over a ring", edges::edge(number));
+                answer.tally.reach(reach);
+            }
             let circumstance = if verdict.is_ok() { operation.name() } else { "refused" };
             answer.tally.meet(S::NAME, circumstance);
         }

@@ -24,15 +24,18 @@ pub enum Operation {
     GetDelayed,
     GetDelayedFract(f64),
     Mute,
+    /// `GetDelayedFract` that tells what it reaches.
+    GetDelayedFractTold(f64),
 }
 
-const OPERATIONS: [Operation; 6] = [
+const OPERATIONS: [Operation; 7] = [
     Operation::Advance,
     Operation::AdvanceLent,
     Operation::Write(0.0),
     Operation::GetDelayed,
     Operation::GetDelayedFract(0.0),
     Operation::Mute,
+    Operation::GetDelayedFractTold(0.0),
 ];
 
 impl Pass for Bare {
@@ -45,7 +48,9 @@ impl Pass for Operation {
     fn pass(&mut self, tape: &mut dyn Tape) -> Passed {
         tape.variant(self, &OPERATIONS)?;
         match self {
-            Operation::Write(number) | Operation::GetDelayedFract(number) => tape.number(number),
+            Operation::Write(number) | Operation::GetDelayedFract(number) | Operation::GetDelayedFractTold(number) => {
+                tape.number(number)
+            }
             _ => Ok(()),
         }
     }
@@ -57,7 +62,9 @@ impl Machine<Operation> for DelayLine {
             Operation::Advance | Operation::AdvanceLent => self.advance(),
             Operation::Write(sample) => self.write(sample),
             Operation::GetDelayed => return self.get_delayed(),
-            Operation::GetDelayedFract(fraction) => return self.get_delayed_fract(fraction),
+            Operation::GetDelayedFract(fraction) | Operation::GetDelayedFractTold(fraction) => {
+                return self.get_delayed_fract(fraction);
+            }
             Operation::Mute => self.mute(),
         }
         0.0
@@ -88,8 +95,9 @@ impl over_ring::Operation for Operation {
             1..8 => Operation::AdvanceLent,
             8..20 => Operation::Advance,
             20..30 => Operation::Write(values.number(Role::Sample)),
-            30..40 => Operation::GetDelayed,
-            _ => Operation::GetDelayedFract(values.number(Role::Fraction)),
+            30..36 => Operation::GetDelayed,
+            36..48 => Operation::GetDelayedFract(values.number(Role::Fraction)),
+            _ => Operation::GetDelayedFractTold(values.number(Role::Fraction)),
         }
     }
 
@@ -101,6 +109,14 @@ impl over_ring::Operation for Operation {
             Operation::GetDelayed => "get_delayed",
             Operation::GetDelayedFract(_) => "get_delayed_fract",
             Operation::Mute => "mute",
+            Operation::GetDelayedFractTold(_) => "get_delayed_fract told",
+        }
+    }
+
+    fn told(&self) -> Option<f64> {
+        match *self {
+            Operation::GetDelayedFractTold(fraction) => Some(fraction),
+            _ => None,
         }
     }
 }

@@ -1,4 +1,5 @@
-//! What the comb and the all-pass are asked: a sample at the whole delay, a sample at a fraction of it, silence.
+//! What the comb and the all-pass are asked: a sample at the whole delay, a sample at a fraction of it, silence; and a sample at a
+//! fraction that tells what it reaches.
 
 use super::over_ring;
 use crate::values::Role;
@@ -13,17 +14,22 @@ pub enum Operation {
     ProcessSampleFract(f64, f64),
     #[default]
     Mute,
+    ProcessSampleFractTold(f64, f64),
 }
 
-const OPERATIONS: [Operation; 3] =
-    [Operation::ProcessSample(0.0), Operation::ProcessSampleFract(0.0, 0.0), Operation::Mute];
+const OPERATIONS: [Operation; 4] = [
+    Operation::ProcessSample(0.0),
+    Operation::ProcessSampleFract(0.0, 0.0),
+    Operation::Mute,
+    Operation::ProcessSampleFractTold(0.0, 0.0),
+];
 
 impl Pass for Operation {
     fn pass(&mut self, tape: &mut dyn Tape) -> Passed {
         tape.variant(self, &OPERATIONS)?;
         match self {
             Operation::ProcessSample(input) => tape.number(input),
-            Operation::ProcessSampleFract(fraction, input) => {
+            Operation::ProcessSampleFract(fraction, input) | Operation::ProcessSampleFractTold(fraction, input) => {
                 tape.number(fraction)?;
                 tape.number(input)
             }
@@ -37,8 +43,9 @@ impl over_ring::Operation for Operation {
         let input = values.number(Role::Sample);
         match values.random.below(40) {
             0 => Operation::Mute,
-            1..16 => Operation::ProcessSample(input),
-            _ => Operation::ProcessSampleFract(values.number(Role::Fraction), input),
+            1..12 => Operation::ProcessSample(input),
+            12..24 => Operation::ProcessSampleFract(values.number(Role::Fraction), input),
+            _ => Operation::ProcessSampleFractTold(values.number(Role::Fraction), input),
         }
     }
 
@@ -47,6 +54,14 @@ impl over_ring::Operation for Operation {
             Operation::ProcessSample(_) => "process_sample",
             Operation::ProcessSampleFract(..) => "process_sample_fract",
             Operation::Mute => "mute",
+            Operation::ProcessSampleFractTold(..) => "process_sample_fract told",
+        }
+    }
+
+    fn told(&self) -> Option<f64> {
+        match *self {
+            Operation::ProcessSampleFractTold(fraction, _) => Some(fraction),
+            _ => None,
         }
     }
 }
@@ -62,7 +77,9 @@ impl Operation {
     ) -> f64 {
         match *self {
             Operation::ProcessSample(input) => process_sample(machine, input),
-            Operation::ProcessSampleFract(fraction, input) => process_sample_fract(machine, fraction, input),
+            Operation::ProcessSampleFract(fraction, input) | Operation::ProcessSampleFractTold(fraction, input) => {
+                process_sample_fract(machine, fraction, input)
+            }
             Operation::Mute => {
                 mute(machine);
                 0.0

@@ -3,11 +3,18 @@
 use super::Session;
 use super::Stage;
 use super::Window;
+use super::kind;
+use super::kind::Kind;
 use super::parameter::Parameter;
+use crate::edges;
+use crate::edges::EDGES;
 use crate::pools::Buffer;
 use crate::pools::Marks;
 use crate::pools::Pools;
+use crate::reach;
+use crate::reach::Reaches;
 use crate::refusals::Refusal;
+use crate::refusals::Verdict;
 use crate::tally::Tally;
 
 /// The circumstances of a stage, as the columns of a table: window, beginning, parameters, inputs, outputs, width.
@@ -46,6 +53,40 @@ fn pairs() -> impl Iterator<Item = [&'static str; 4]> {
 pub fn rarest_pair(tally: &Tally) -> (usize, u64) {
     let met = pairs().map(|pair| tally.crossed.get(&pair).copied().unwrap_or_default());
     (pairs().count(), met.min().unwrap_or_default())
+}
+
+/// Strings that tell what they reach, and whether one's place in the order is its number.
+const REACH: &str = "reach of strings";
+const PLACES: [&str; 2] = ["elsewhere", "in its place"];
+
+/// How many ways there are for such a string, by its reflectance, by where its quotient stands and by its place; and how often
+/// the rarest was met.
+pub fn rarest_string(tally: &Tally) -> (usize, u64) {
+    let names = kind::REFLECTANCES.map(|reflectance| Kind::Waveguide(reflectance, 0).name());
+    let edges = names.into_iter().flat_map(|name| EDGES.map(|edge| (name, edge)));
+    let ways = edges.flat_map(|(name, edge)| PLACES.map(|place| [REACH, name, edge, place]));
+    let met: Vec<_> = ways.map(|way| tally.crossed.get(&way).copied().unwrap_or_default()).collect();
+    (met.len(), met.into_iter().min().unwrap_or_default())
+}
+
+/// What a window meets that tells what its strings reach.
+pub fn meet_reaches(session: &Session, window: &Window, verdict: Verdict, reaches: &Reaches, tally: &mut Tally) {
+    for (number, stage) in (0..).zip(&session.stages).filter(|(_, stage)| stage.kind.buffer_size().is_some()) {
+        let place = window.order.iter().position(|&ordered| ordered == number);
+        let met = match (place, reach::quotient(stage, window)) {
+            _ if verdict.is_err() => "refused",
+            (None, _) => "not ordered",
+            _ if window.n == 0 => "empty window",
+            (Some(place), Some(quotient)) => {
+                let edge = edges::edge(quotient);
+                tally.cross([REACH, stage.kind.name(), edge, PLACES[usize::from(place as u64 == number)]]);
+                edge
+            }
+            (_, None) => unreachable!("an accepted string has its parameters"),
+        };
+        tally.meet(REACH, met);
+        tally.reach(reaches[number as usize]);
+    }
 }
 
 /// Orders by their length, in eights.

@@ -9,11 +9,13 @@ mod random;
 mod run;
 mod show;
 mod smaller;
+mod strings;
 
 pub use coverage::CIRCUMSTANCES;
 pub use coverage::PARAMETERS;
 pub use coverage::WINDOWS;
 pub use coverage::rarest_pair;
+pub use coverage::rarest_string;
 use kind::Kind;
 use parameter::Parameter;
 pub use show::show_stage;
@@ -39,6 +41,8 @@ use crate::words::Tape;
 pub struct Session {
     /// Whether answers include states and rings.
     pub with_states: bool,
+    /// Whether answers include what each stage reaches.
+    pub with_reaches: bool,
     pub pools: Pools,
     pub values: Vec<f64>,
     pub rings: Vec<f64>,
@@ -86,9 +90,9 @@ pub enum Setting {
 
 impl Pass for Session {
     fn pass(&mut self, tape: &mut dyn Tape) -> Passed {
-        let mut flags = u64::from(self.with_states);
-        tape.at_most(&mut flags, 1)?;
-        self.with_states = flags == 1;
+        let mut flags = u64::from(self.with_states) + 2 * u64::from(self.with_reaches);
+        tape.at_most(&mut flags, 3)?;
+        (self.with_states, self.with_reaches) = (flags & 1 != 0, flags & 2 != 0);
         self.pools.pass_sizes(tape)?;
         let lengths = self.pools.pass_lengths(tape)?;
         let (mut values, mut rings) = (self.values.len() as u64, self.rings.len() as u64);
@@ -172,7 +176,9 @@ impl Session {
     /// How many words answer a window.
     pub fn answer_length(&self) -> usize {
         let shown = 3 + self.pools.internal.samples.len() + self.pools.external.samples.len() + 2 * ROOM;
-        shown + if self.with_states { 11 * self.states.len() + self.rings.len() } else { 0 }
+        let states = if self.with_states { 11 * self.states.len() + self.rings.len() } else { 0 };
+        let reaches = if self.with_reaches { MOST_STAGES as usize } else { 0 };
+        shown + states + reaches
     }
 }
 

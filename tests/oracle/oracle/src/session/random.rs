@@ -14,6 +14,7 @@ use super::kind;
 use super::kind::KINDS;
 use super::kind::Kind;
 use super::parameter::Parameter;
+use super::strings;
 use crate::lengths::MOST_CELLS;
 use crate::lengths::MOST_VALUES;
 use crate::pools::Buffer;
@@ -55,13 +56,16 @@ pub fn session(values: &mut Values, refused: bool) -> Session {
         8..13 => values.random.between(6, 16),
         _ => values.random.between(17, MOST_STAGES),
     };
-    let mut stages: Vec<_> = (0..stage_count).map(|_| stage(values, &pools, &slots)).collect();
+    // Some patches are of strings for the most part, so that several of them stand in one order.
+    let strings = values.random.once_in(8);
+    let mut stages: Vec<_> = (0..stage_count).map(|_| stage(values, &pools, &slots, strings)).collect();
     let spare = values.random.pick(&[0, 0, 1, 7]);
     if cells(&stages) + spare > MOST_CELLS {
         stages.retain(|stage| stage.kind.buffer_size().is_none());
     }
     let mut session = Session {
         with_states: false,
+        with_reaches: strings || values.random.once_in(2),
         values: slot_values(values, &slots),
         rings: vec![0.0; (cells(&stages) + spare) as usize],
         stage_count: stages.len() as u64,
@@ -81,8 +85,8 @@ fn slot_values(values: &mut Values, slots: &[Role]) -> Vec<f64> {
     slots.iter().map(|&role| values.number(role)).collect()
 }
 
-fn stage(values: &mut Values, pools: &Pools, slots: &[Role]) -> Stage {
-    let kind = kind(values);
+fn stage(values: &mut Values, pools: &Pools, slots: &[Role], strings: bool) -> Stage {
+    let kind = kind(values, strings);
     values.ring = kind.buffer_size().unwrap_or(values.ring);
     // A stage that is named in no order may name what isn't there.
     let astray = values.random.once_in(40);
@@ -97,8 +101,12 @@ fn stage(values: &mut Values, pools: &Pools, slots: &[Role]) -> Stage {
         outputs.push(output);
     }
     let mut parameters: Vec<_> = kind.roles().iter().map(|&role| parameter(values, role, slots, astray)).collect();
-    if let Kind::Pan = kind {
-        pair_levels(values, &mut parameters[..2]);
+    match &kind {
+        Kind::Pan => pair_levels(values, &mut parameters[..2]),
+        Kind::Waveguide(reflectance, size) if values.random.once_in(2) => {
+            strings::aim(values, reflectance, *size, &mut parameters);
+        }
+        _ => (),
     }
     Stage { kind, inputs, outputs, parameters }
 }
@@ -110,10 +118,12 @@ fn pair_levels(values: &mut Values, levels: &mut [Parameter]) {
     }
 }
 
-/// Each kind as often as another, and each with its choices as often as another, by turns.
-fn kind(values: &mut Values) -> Kind {
+/// Each kind as often as another, and each with its choices as often as another, by turns; or mostly strings.
+fn kind(values: &mut Values, strings: bool) -> Kind {
     let mut members = kind::all();
-    if values.random.once_in(2) {
+    if strings && !values.random.once_in(3) {
+        members.retain(|kind| kind.buffer_size().is_some());
+    } else if values.random.once_in(2) {
         let family = values.random.pick(&KINDS);
         members.retain(|kind| mem::discriminant(kind) == mem::discriminant(&family));
     }

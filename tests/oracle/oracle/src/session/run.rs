@@ -15,6 +15,7 @@ use crate::laid::Laid;
 use crate::panics;
 use crate::pools::Buffer;
 use crate::pools::Pools;
+use crate::reach;
 use crate::refusals;
 use crate::refusals::Refusal;
 use crate::refusals::Verdict;
@@ -68,6 +69,11 @@ impl Session {
             host.pools.answer_marks(answer);
             if self.with_states {
                 self.answer_states(answer);
+            }
+            if self.with_reaches {
+                let reaches = reach::of_run(&self.stages, window, verdict);
+                coverage::meet_reaches(self, window, verdict, &reaches, &mut answer.tally);
+                answer.reaches(&reaches);
             }
         }
         Ok(())

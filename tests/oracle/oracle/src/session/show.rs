@@ -10,6 +10,11 @@ use crate::show;
 
 pub fn show(session: &Session) -> String {
     let mut text = show::pools(&session.pools);
+    for (told, what) in [(session.with_states, "states and rings"), (session.with_reaches, "what stages reach")] {
+        if told {
+            text += &format!("  with {what}\n");
+        }
+    }
     text += &format!("  rings {}, stage count {}\n", show::numbers(&session.rings), session.stage_count);
     for (number, stage) in session.stages.iter().enumerate() {
         text += &format!("  stage {number}: {}\n", show_stage(stage));

@@ -21,6 +21,7 @@ pub const WAYS: &[fn(&Session) -> Vec<Session>] = &[
     fewer_lent,
     zero_samples,
     new_states,
+    without_reaches,
 ];
 
 /// The session after a change.
@@ -219,6 +220,11 @@ fn new_states(session: &Session) -> Vec<Session> {
     let hidden = session.with_states.then(|| after(session, |session| session.with_states = false));
     let other = |new: &Session| new.remembered() != session.remembered();
     hidden.into_iter().chain([true, false].map(new).into_iter().filter(other)).collect()
+}
+
+fn without_reaches(session: &Session) -> Vec<Session> {
+    let hidden = session.with_reaches.then(|| after(session, |session| session.with_reaches = false));
+    hidden.into_iter().collect()
 }
 
 impl Session {

@@ -9,6 +9,7 @@ mod pan;
 mod parameters;
 pub mod parts;
 mod pools;
+pub mod reach;
 mod stages;
 
 use microwave::magnetron::waveguide::Reflectance;
@@ -68,13 +69,15 @@ pub fn good_pools(counts: [u64; 2], capacities: [u64; 2]) -> Pools {
 }
 
 /// A session that lends as many ring cells as its stages need, and no values. States and rings hold numbers; a string stands
-/// at the last slot of its ring, and the other stages' positions, at which nobody looks, are in no ring.
+/// at the last slot of its ring, and the other stages' positions, at which nobody looks, are in no ring. Answers tell what each
+/// stage reaches.
 pub fn lent(pools: Pools, stages: Vec<Stage>) -> Session {
     let states = (0..MOST_STAGES as usize).map(|number| State {
         numbers: std::array::from_fn(|place| (number * 16 + place) as f64 - 0.125),
         position: stages.get(number).and_then(|stage| stage.kind.buffer_size()).unwrap_or(u64::MAX),
     });
     Session {
+        with_reaches: true,
         pools,
         rings: (0..cells(&stages)).map(|cell| cell as f64 + 0.0625).collect(),
         states: states.collect(),

@@ -17,7 +17,7 @@ pub fn groups() -> impl Iterator<Item = Group> {
 }
 
 /// Every order of up to three numbers below `stages`.
-fn orders(stages: u64) -> Vec<Vec<u64>> {
+pub fn orders(stages: u64) -> Vec<Vec<u64>> {
     let mut orders = vec![Vec::new()];
     for start in [0, 1, 1 + stages as usize] {
         for shorter in orders[start..].to_vec() {

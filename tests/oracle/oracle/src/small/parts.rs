@@ -17,7 +17,7 @@ use crate::words::words;
 /// Three internal and three external buffers, as their words.
 const BUFFERS: [u64; 6] = [0, 2, 4, 1, 3, 5];
 
-fn case(words: &[u64]) -> Case {
+pub fn case(words: &[u64]) -> Case {
     Case::of_words(words).expect("a small case can be read")
 }
 
