@@ -1,0 +1,2 @@
+-- Laws that the proofs of `report::report` alone cite.
+mod Sorts

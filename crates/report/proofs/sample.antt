@@ -1,0 +1,2 @@
+-- Laws that the proofs of `report::sample` alone cite.
+mod Numbers
