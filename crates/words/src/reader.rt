@@ -45,10 +45,11 @@ impl Cursor {
         if bytes.len() < end {
             return Taken::Short;
         }
-        if end < at {
+        // Two tests that no cursor of a loop moves, and one that it does.
+        if end < 8 {
             return Taken::Short;
         }
-        if end - at < 8 {
+        if end - 8 < at {
             return Taken::Short;
         }
         Taken::Word(word_at(bytes, at), Cursor { at: at + 8, end })
