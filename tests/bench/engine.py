@@ -1,5 +1,5 @@
 """The engine as the benchmarks link it: the static library of crates/host, or the LLVM module that it is compiled from, compiled for
-this machine. Rests on rt and on the compiler of its kit."""
+this machine; and a program's module so compiled. Rests on rt and on the compiler of its kit."""
 import os, pathlib, platform, re, shutil, subprocess, sys
 
 KIT = pathlib.Path(os.environ.get('RATTLE_HOME') or pathlib.Path(shutil.which('rt') or sys.exit('rt is not on the path')).resolve().parents[1])
@@ -20,8 +20,9 @@ def processor():
     return re.search(r'Model name:\s*(.*)', said)[1]
 
 
-def listening_kit(into):
-    """The kit by links, with a compiler that keeps what it is given and how it is called, and is the kit's own otherwise."""
+def listening_kit(into, level=''):
+    """The kit by links, with a compiler that keeps what it is given and how it is called, where the call has the level's option, and is
+    the kit's own otherwise."""
     kit = into / 'kit'
     shutil.rmtree(kit, ignore_errors=True)
     own = kit / 'on' / MACHINE
@@ -34,7 +35,8 @@ def listening_kit(into):
         (own / 'toolchain/bin' / name).symlink_to(CLANG.parent / name)
     clang = own / 'toolchain/bin/clang'
     clang.unlink()
-    clang.write_text(f'#!/bin/sh\ncp module.bc {into}/module.bc\nprintf "%s\\n" "$@" >{into}/options\nexec {CLANG} "$@"\n')
+    kept = f'cp module.bc {into}/module.bc; printf "%s\\n" "$@" >{into}/options'
+    clang.write_text(f'#!/bin/sh\ncase " $* " in *"{level} "*) {kept};; esac\nexec {CLANG} "$@"\n')
     clang.chmod(0o755)
     return kit
 
@@ -58,10 +60,32 @@ def module(root, into):
     changed, and writes the archive of that repository."""
     into.mkdir(parents=True, exist_ok=True)
     do('rt', 'staticlib', 'host', cwd=root, env={**os.environ, 'RATTLE_HOME': str(listening_kit(into))})
+    return caught(into)
+
+
+def tried_module(root, into, name):
+    """The same of a program, as `rt try` has it compiled at -O3. Nothing is proved by that: the program is held to its file 'stdout'."""
+    into.mkdir(parents=True, exist_ok=True)
+    do('rt', 'try', name, cwd=root, env={**os.environ, 'RATTLE_HOME': str(listening_kit(into, '-O3'))})
+    return caught(into)
+
+
+def making(words):
+    """Of a compiler's options those that say how code is made: its level, its features, and what goes to its inner parts, but for traps."""
+    kept = []
+    for before, word in zip(['', *words], words):
+        if before in ('-Xclang', '-mllvm'):
+            kept += [before, word] if 'trap' not in word else []
+        elif word.startswith(('-O', '-f')) and word != '-fintegrated-cc1':
+            kept.append(word)
+    return kept
+
+
+def caught(into):
+    """What the listening compiler kept: the module's text for this machine, and options."""
     do(CLANG, '--target=x86_64-unknown-linux-gnu', '-S', '-emit-llvm', '-Xclang', '-disable-llvm-passes', '-x', 'ir', into / 'module.bc', '-o', into / 'module.ll')
     text = (into / 'module.ll').read_text()
-    options = [word for word in (into / 'options').read_text().split('\n') if word.startswith(('-O', '-f')) and word != '-fintegrated-cc1']
-    return (text if MACHINE == 'x86_64' else for_this_machine(text)), options
+    return (text if MACHINE == 'x86_64' else for_this_machine(text)), making((into / 'options').read_text().split('\n'))
 
 
 def compiled(text, options, made):
@@ -84,6 +108,19 @@ def library(root, into):
     compiled(text, options, into / 'host.o')
     return into / 'host.o', (f'**not the archive**, which is for x86-64 alone: the LLVM module that it is compiled from, compiled for {MACHINE} '
                              f'by the same compiler ({" ".join(options)})')
+
+
+def tried_program(root, into, name):
+    """A program of the repository for this machine, and what it is."""
+    if MACHINE == 'x86_64':
+        return root / 'target/bin' / name, f'target/bin/{name}, as `rt check {name}` makes it'
+    if MACHINE != 'aarch64':
+        sys.exit(f'nothing is known of calls on {MACHINE}')
+    text, options = tried_module(root, into, name)
+    compiled(text, options, into / f'{name}.o')
+    do('cc', '-pie', into / f'{name}.o', '-o', into / name)
+    return into / name, (f'**not target/bin/{name}**, which is for x86-64: the LLVM module that `rt try {name}` compiles, compiled for {MACHINE} '
+                         f'by the same compiler ({" ".join(options)})')
 
 
 def program(here, into, name, profile, linked):
