@@ -3,7 +3,7 @@ ghost use Rattle.std.specs.Prelude.{◌≡◌};
 ghost use Rattle.answers.specs.Activity.{rank_of, greater_of};
 
 // Greatest last.
-#[derive(Drop)]
+#[derive(Clone, Copy)]
 pub enum StageActivity {
     Exhausted,
     Internal,

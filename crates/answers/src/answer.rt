@@ -6,7 +6,7 @@ use crate::activity::StageActivity;
 use crate::verdict::Verdict;
 
 // 0 with stage 32 and an activity, or a refusal with its stage and Exhausted.
-#[derive(Drop)]
+#[derive(Clone, Copy)]
 pub struct Answer {
     pub number: usize,
     pub stage: usize,

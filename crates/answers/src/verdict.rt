@@ -6,7 +6,7 @@ ghost use Rattle.answers.specs.Verdict.{verdict_of};
 
 // 0 with stage 32, or a refusal's number and its stage.
 #[repr(C)]
-#[derive(Drop)]
+#[derive(Clone, Copy)]
 pub struct Verdict {
     pub number: usize,
     pub stage: usize,

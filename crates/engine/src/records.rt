@@ -4,7 +4,7 @@ use stages::patch::Patch;
 use stages::state::States;
 use stages::window::RenderWindow;
 
-#[derive(Drop)]
+#[derive(Clone, Copy)]
 pub(crate) struct Records {
     pub patch: Patch,
     pub pools: Pools,

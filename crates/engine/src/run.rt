@@ -17,7 +17,7 @@ use stages::state::States;
 use stages::window::render_window;
 
 // What a run answers, with the records that it hands back, and whether each string reached its note.
-#[derive(Drop)]
+#[derive(Clone, Copy)]
 pub struct Ran {
     pub answer: Answer,
     pub pools: Pools,

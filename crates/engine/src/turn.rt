@@ -44,7 +44,7 @@ fn sources(inputs: Inputs, pools: Pools, marks: Marks, output: BufferIndex) -> S
 }
 
 // A stage whose turn it is: what it remembers, the marks by then, and what holds for the whole run.
-#[derive(Drop)]
+#[derive(Clone, Copy)]
 pub(crate) struct Turn {
     pub stage: Stage,
     pub state: State,
@@ -54,7 +54,7 @@ pub(crate) struct Turn {
 }
 
 // What a turn leaves of its stage: what it remembers, and whether its string reached its note.
-#[derive(Drop)]
+#[derive(Clone, Copy)]
 pub(crate) struct Taken {
     pub state: State,
     pub reach: Reach,

@@ -3,7 +3,7 @@
 use mathlib.Core.Path.{◌≡◌, refl, sym, ap, ◌∙◌}
 use mathlib.Core.Bool.{Bool, true, false, cond}
 use mathlib.Core.List.{List}
-use Prim.Native.Nat.{ℕ, ◌≤◌, zero_le}
+use Prim.Native.Nat.{ℕ, ◌≤◌, zero-le}
 use native.Mathlib.Nat.{le_refl, le_antisymm}
 use native.Mathlib.Omega.{arith}
 use lib.Dec.{leb, eqb}
@@ -96,7 +96,7 @@ module _ (size : ℕ) where
 
 module _ (bytes : List ℕ) where
   sound : (m : ℕ) → m ≤ length bytes → Sound 0 (length bytes) m (headed bytes 0) (headed (take m bytes) 0)
-  sound m h = steady_headed bytes 0 m (le_refl 0) zero_le h
+  sound m h = steady_headed bytes 0 m (le_refl 0) zero-le h
 
   -- the offset of a refusal lies in the file or at its end; of a patch it is 0
   pub offset_inside : (read_of bytes).offset ≤ length bytes

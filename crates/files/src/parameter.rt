@@ -10,7 +10,7 @@ use flat::patch::no_parameter;
 use flat::stage::FlatParameter;
 
 // How far was read, and the parameter.
-#[derive(Drop)]
+#[derive(Clone, Copy)]
 pub(crate) struct ParameterRead {
     pub reading: Reading,
     pub parameter: FlatParameter,

@@ -9,7 +9,7 @@ use flat::patch::{FlatPatch, no_flat};
 
 // 0, 0 and the patch; or a refusal's number, the offset where what is at fault begins, and the empty patch.
 #[repr(C)]
-#[derive(Drop)]
+#[derive(Clone, Copy)]
 pub struct ReadPatch {
     pub number: usize,
     pub offset: usize,
@@ -17,7 +17,7 @@ pub struct ReadPatch {
 }
 
 // How far was read, and a patch of the stages.
-#[derive(Drop)]
+#[derive(Clone, Copy)]
 pub(crate) struct StagesRead {
     pub reading: Reading,
     pub patch: FlatPatch,

@@ -8,21 +8,21 @@ ghost use Rattle.files.specs.Inside.{told, after, stopped, in_range, judged_by};
 use words::reader::{Cursor, Taken};
 
 // 0 and the offset of what is read next; or a refusal's number and the offset where what is at fault begins.
-#[derive(Drop)]
+#[derive(Clone, Copy)]
 pub(crate) struct Reading {
     pub refusal: usize,
     pub offset: usize,
 }
 
 // How far was read, and the number.
-#[derive(Drop)]
+#[derive(Clone, Copy)]
 pub(crate) struct NumberRead {
     pub reading: Reading,
     pub value: usize,
 }
 
 // How far was read, and the bits that eight bytes make.
-#[derive(Drop)]
+#[derive(Clone, Copy)]
 pub(crate) struct BitsRead {
     pub reading: Reading,
     pub bits: u64,

@@ -10,7 +10,7 @@ use flat::patch::no_flat;
 use flat::stage::{FlatParameter, FlatStage};
 
 // What is chosen, and a waveguide's size. What the kind does not have is 0.
-#[derive(Drop)]
+#[derive(Clone, Copy)]
 pub(crate) struct Choices {
     pub choice: usize,
     pub modulation: usize,
@@ -18,7 +18,7 @@ pub(crate) struct Choices {
 }
 
 // The buffers that are read and written. What the kind does not have is 0.
-#[derive(Drop)]
+#[derive(Clone, Copy)]
 pub(crate) struct Wires {
     pub first_input: usize,
     pub second_input: usize,
@@ -27,7 +27,7 @@ pub(crate) struct Wires {
 }
 
 // The level, and up to three parameters more.
-#[derive(Drop)]
+#[derive(Clone, Copy)]
 pub(crate) struct Parameters {
     pub out_level: FlatParameter,
     pub first: FlatParameter,
@@ -36,25 +36,25 @@ pub(crate) struct Parameters {
 }
 
 // How far was read, and what: each of these three, and a stage.
-#[derive(Drop)]
+#[derive(Clone, Copy)]
 pub(crate) struct ChoicesRead {
     pub reading: Reading,
     pub choices: Choices,
 }
 
-#[derive(Drop)]
+#[derive(Clone, Copy)]
 pub(crate) struct WiresRead {
     pub reading: Reading,
     pub wires: Wires,
 }
 
-#[derive(Drop)]
+#[derive(Clone, Copy)]
 pub(crate) struct ParametersRead {
     pub reading: Reading,
     pub parameters: Parameters,
 }
 
-#[derive(Drop)]
+#[derive(Clone, Copy)]
 pub(crate) struct StageRead {
     pub reading: Reading,
     pub stage: FlatStage,

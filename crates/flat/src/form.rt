@@ -20,7 +20,7 @@ const PARAMETERS: [u8; 15] = [0, 0, 1, 1, 2, 1, 2, 2, 2, 2, 2, 2, 3, 0, 3];
 
 // How many waveforms or reflectances, and how many modulations, there are to choose from: 0 where nothing is chosen.
 // How many sizes, inputs, outputs and parameters the kind has; a stream of tests lists no others.
-#[derive(Drop)]
+#[derive(Clone, Copy)]
 pub struct Form {
     pub choices: u8,
     pub modulations: u8,
@@ -30,7 +30,7 @@ pub struct Form {
     pub parameters: u8,
 }
 
-#[derive(Drop)]
+#[derive(Clone, Copy)]
 pub enum Formed {
     Form(Form),
     Unknown,

@@ -11,14 +11,14 @@ use stages::stage::Stage;
 
 // At most 32 stages; those from `count` on are not looked at.
 #[repr(C)]
-#[derive(Drop)]
+#[derive(Clone, Copy)]
 pub struct FlatPatch {
     pub count: usize,
     pub stages: [FlatStage; 32],
 }
 
 // The patch, and the first of its stages whose numbers name none; 32 where each names one.
-#[derive(Drop)]
+#[derive(Clone, Copy)]
 pub struct NamedPatch {
     pub patch: Patch,
     pub unknown: usize,

@@ -16,7 +16,7 @@ use words::number::from_word;
 // A parameter, by its mark: 0 absent, 1 the number of these bits, 2 the slot, 3 the window's seconds. Bits, since those of two numbers can be
 // compared, and a float has one NaN for many bits.
 #[repr(C)]
-#[derive(Drop)]
+#[derive(Clone, Copy)]
 pub struct FlatParameter {
     pub mark: usize,
     pub slot: usize,
@@ -26,7 +26,7 @@ pub struct FlatParameter {
 // A stage, its buffers by their numbers. What the kind does not have is not looked at. Of Pan, `output` and `out_level` are the left ones,
 // `second_output` the right one, and the parameters are the right level, the left gain and the right gain.
 #[repr(C)]
-#[derive(Drop)]
+#[derive(Clone, Copy)]
 pub struct FlatStage {
     pub kind: usize,
     pub choice: usize,
@@ -42,7 +42,7 @@ pub struct FlatStage {
     pub third: FlatParameter,
 }
 
-#[derive(Drop)]
+#[derive(Clone, Copy)]
 pub enum Named {
     Stage(Stage),
     Unknown,

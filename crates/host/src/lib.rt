@@ -3,6 +3,8 @@
 // Records go by value, but for the cursor, which is lent. No enum crosses: a patch comes as plain numbers, an activity leaves as its rank, what
 // a string tells as its number.
 // Rests on `flat` for the numbers, on `files` for a patch file, and on `engine`, `magnetron` and `util` for the work.
+#![tactic(auto)]
+
 pub mod cursor;
 pub mod file;
 pub mod pools;

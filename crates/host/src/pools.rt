@@ -18,7 +18,7 @@ use magnetron::write::{OutLevel, Wrote};
 
 // What a single write answers, and the pools with its output's mark cleared.
 #[repr(C)]
-#[derive(Drop)]
+#[derive(Clone, Copy)]
 pub struct FlatWrote {
     pub answer: FlatAnswer,
     pub pools: Pools,

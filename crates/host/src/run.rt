@@ -14,7 +14,7 @@ use stages::state::States;
 
 // 0 with stage 32, or a refusal's number with its stage; the activity from 0: Exhausted, Internal, External, Observer.
 #[repr(C)]
-#[derive(Drop)]
+#[derive(Clone, Copy)]
 pub struct FlatAnswer {
     pub number: usize,
     pub stage: usize,
@@ -23,7 +23,7 @@ pub struct FlatAnswer {
 
 // What a run answers, with the records for the next one, and by stage number whether each string reached its note.
 #[repr(C)]
-#[derive(Drop)]
+#[derive(Clone, Copy)]
 pub struct FlatRan {
     pub answer: FlatAnswer,
     pub pools: Pools,

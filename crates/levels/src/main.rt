@@ -1,19 +1,21 @@
 // The level report of what standard input gives, as raw f64, low byte first: six figures, one to a line. Rests on `report` for the figures and on
 // the kit's `io` and `libc` for the streams. docs/LEVELS.md is its page.
+#![tactic(auto)]
+
 ghost use Rattle.std.specs.Prelude.{◌-◌, ◌<◌, ◌≤◌, length};
 
 use libc::{STDERR_FILENO, STDIN_FILENO, STDOUT_FILENO};
 use report::report::{Added, Report, add_bytes, new_report};
 
 // How many bytes came, and whether a read failed.
-#[derive(Drop)]
+#[derive(Clone, Copy)]
 struct Got {
     count: usize,
     failed: bool,
 }
 
 // What the input was: all that was added, or that it could not be read.
-#[derive(Drop)]
+#[derive(Clone, Copy)]
 enum Input {
     Whole(Added),
     Unread,

@@ -7,28 +7,28 @@ use stages::patch::Patch;
 use stream::place::{Buffer, Place};
 
 // A patch, and the place after it.
-#[derive(Drop)]
+#[derive(Clone, Copy)]
 pub struct PatchRead {
     pub place: Place,
     pub patch: Patch,
 }
 
 // A patch as numbers, and the place after it.
-#[derive(Drop)]
+#[derive(Clone, Copy)]
 struct FlatPatchRead {
     place: Place,
     patch: FlatPatch,
 }
 
 // A stage as numbers, and the place after it.
-#[derive(Drop)]
+#[derive(Clone, Copy)]
 struct FlatRead {
     place: Place,
     stage: FlatStage,
 }
 
 // A parameter, and the place after it.
-#[derive(Drop)]
+#[derive(Clone, Copy)]
 struct ParameterRead {
     place: Place,
     parameter: FlatParameter,

@@ -10,7 +10,7 @@ use words::number::{from_word, to_word};
 const ROOM: usize = 11;
 
 // The states, and the place after them.
-#[derive(Drop)]
+#[derive(Clone, Copy)]
 pub struct StatesRead {
     pub place: Place,
     pub states: States,

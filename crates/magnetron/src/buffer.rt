@@ -4,14 +4,14 @@ ghost use Rattle.magnetron.specs.Buffers.{buffer_of, same_buffer, activity_of, s
 
 use answers::activity::StageActivity;
 
-#[derive(Drop)]
+#[derive(Clone, Copy)]
 pub enum BufferIndex {
     External(usize),
     Internal(usize),
 }
 
 // The marks of both pools, which a run carries along.
-#[derive(Drop)]
+#[derive(Clone, Copy)]
 pub struct Marks {
     pub internal: [bool; 16],
     pub external: [bool; 16],

@@ -11,7 +11,7 @@ use crate::output::{Target, write_sample};
 use crate::source::{Source, fetch};
 
 // What a single write puts: a source's samples, or the product of two sources, first times second.
-#[derive(Drop)]
+#[derive(Clone, Copy)]
 pub(crate) enum Content {
     Copy(Source),
     Product(Source, Source),

@@ -4,7 +4,7 @@ ghost use Rattle.magnetron.specs.Buffers.{hits, list_of};
 
 use crate::buffer::{BufferIndex, same_buffer};
 
-#[derive(Drop)]
+#[derive(Clone, Copy)]
 pub enum Inputs {
     Nothing,
     One(BufferIndex),

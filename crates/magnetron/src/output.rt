@@ -6,7 +6,7 @@ ghost use Rattle.magnetron.specs.Inside.Mix.{mix_of};
 ghost use Rattle.magnetron.specs.Inside.Target.{sampled};
 
 // Where a loop writes: that many samples from base on, stored where the output is stale and added where it is not, each times the level first.
-#[derive(Drop)]
+#[derive(Clone, Copy)]
 pub struct Target {
     pub base: usize,
     pub samples: usize,

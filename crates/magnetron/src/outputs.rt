@@ -11,7 +11,7 @@ use crate::pool::Pools;
 use answers::activity::{StageActivity, greater};
 
 // One, or a left one and a right one.
-#[derive(Drop)]
+#[derive(Clone, Copy)]
 pub enum Outputs {
     One(BufferIndex),
     Two(BufferIndex, BufferIndex),

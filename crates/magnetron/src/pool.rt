@@ -6,7 +6,7 @@ use crate::buffer::{BufferIndex, Marks};
 
 // The record of a pool, whose samples are a lent slice of count times capacity.
 #[repr(C)]
-#[derive(Drop)]
+#[derive(Clone, Copy)]
 pub struct Pool {
     pub count: usize,
     pub capacity: usize,
@@ -15,7 +15,7 @@ pub struct Pool {
 
 // An engine's own buffers and those of an outer one, and the flag that asks stages to start anew.
 #[repr(C)]
-#[derive(Drop)]
+#[derive(Clone, Copy)]
 pub struct Pools {
     pub internal: Pool,
     pub external: Pool,

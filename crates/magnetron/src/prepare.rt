@@ -10,14 +10,14 @@ use answers::verdict::{Verdict, done, refusal};
 use answers::zeros::fill_with_zeros;
 
 #[repr(C)]
-#[derive(Drop)]
+#[derive(Clone, Copy)]
 pub struct Made {
     pub verdict: Verdict,
     pub pool: Pool,
 }
 
 #[repr(C)]
-#[derive(Drop)]
+#[derive(Clone, Copy)]
 pub struct Prepared {
     pub verdict: Verdict,
     pub pools: Pools,

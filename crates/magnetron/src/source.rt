@@ -8,7 +8,7 @@ use crate::buffer::{BufferIndex, Marks};
 use crate::pool::Pools;
 
 // Where an input's samples lie: nowhere, since it is stale; in the pool that is written; or in the other pool.
-#[derive(Drop)]
+#[derive(Clone, Copy)]
 pub enum Source {
     Zeros,
     Own(usize),

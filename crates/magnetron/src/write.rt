@@ -17,14 +17,14 @@ use crate::source::{Source, source_of};
 use answers::answer::Answer;
 use answers::verdict::{Verdict, refusal, refusal_unless};
 
-#[derive(Drop)]
+#[derive(Clone, Copy)]
 pub enum OutLevel {
     Absent,
     Level(f64),
 }
 
 // What a single write answers, and the pools with its output's mark cleared.
-#[derive(Drop)]
+#[derive(Clone, Copy)]
 pub struct Wrote {
     pub answer: Answer,
     pub pools: Pools,

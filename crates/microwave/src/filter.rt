@@ -14,7 +14,7 @@ use numbers::turns::{cosine_turns, sine_turns};
 const TAU: f64 = 6.283185307179586;
 
 // Each kind with its own parameters.
-#[derive(Drop)]
+#[derive(Clone, Copy)]
 pub enum FilterType {
     LowPass {
         cutoff: Parameter,
@@ -45,7 +45,7 @@ pub enum FilterType {
 }
 
 // A kind with a window's numbers in its parameters' place.
-#[derive(Drop)]
+#[derive(Clone, Copy)]
 pub enum Filter {
     LowPass { cutoff: f64 },
     LowPass2 { resonance: f64, quality: f64 },
@@ -141,7 +141,7 @@ impl FilterType {
 }
 
 // A one-pole's kind, with its coefficient for a window.
-#[derive(Drop)]
+#[derive(Clone, Copy)]
 pub enum OnePole {
     LowPass { alpha: f64 },
     HighPass { alpha: f64 },
@@ -149,14 +149,14 @@ pub enum OnePole {
 
 // A one-pole's memory: the low-pass's last output; the high-pass's last output and last input.
 #[repr(C)]
-#[derive(Drop)]
+#[derive(Clone, Copy)]
 pub struct OnePoleMemory {
     pub low: f64,
     pub high: f64,
     pub last_input: f64,
 }
 
-#[derive(Drop)]
+#[derive(Clone, Copy)]
 pub struct OnePoleStepped {
     pub memory: OnePoleMemory,
     pub sample: f64,
@@ -204,7 +204,7 @@ fn high_pass_alpha(cutoff: f64, w: f64) -> f64
 }
 
 // A biquad's coefficients for a window.
-#[derive(Drop)]
+#[derive(Clone, Copy)]
 pub struct Coefficients {
     pub b0: f64,
     pub b1: f64,
@@ -216,7 +216,7 @@ pub struct Coefficients {
 
 // A biquad's memory: the last two outputs and the last two inputs.
 #[repr(C)]
-#[derive(Drop)]
+#[derive(Clone, Copy)]
 pub struct Biquad {
     pub y1: f64,
     pub y2: f64,
@@ -224,7 +224,7 @@ pub struct Biquad {
     pub x2: f64,
 }
 
-#[derive(Drop)]
+#[derive(Clone, Copy)]
 pub struct BiquadStepped {
     pub memory: Biquad,
     pub sample: f64,
@@ -249,7 +249,7 @@ impl Biquad {
 }
 
 // What the kinds' coefficients are made of.
-#[derive(Drop)]
+#[derive(Clone, Copy)]
 struct Tuning {
     cos: f64,
     alpha: f64,
@@ -320,7 +320,7 @@ fn all_pass(t: Tuning) -> Coefficients
 }
 
 // What each sample of a window steps by.
-#[derive(Drop)]
+#[derive(Clone, Copy)]
 pub enum FilterMachine {
     OnePole(OnePole),
     Biquad(Coefficients),

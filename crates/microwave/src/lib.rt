@@ -1,4 +1,6 @@
 // The kinds of stage, each a machine: parameters become coefficients once per window, and one step works one sample.
+#![tactic(auto)]
+
 pub mod filter;
 pub mod oscillator;
 pub mod parameter;

@@ -7,7 +7,7 @@ use crate::parameter::Parameter;
 use numbers::small::{absolute, fract, rem_euclid_one};
 use numbers::turns::sine_turns;
 
-#[derive(Drop)]
+#[derive(Clone, Copy)]
 pub enum OscillatorType {
     Sin,
     Sin3,
@@ -17,14 +17,14 @@ pub enum OscillatorType {
 }
 
 // How a modulated oscillator of a patch takes its input.
-#[derive(Drop)]
+#[derive(Clone, Copy)]
 pub enum Modulation {
     ByPhase,
     ByFrequency,
 }
 
 // An oscillator of a patch.
-#[derive(Drop)]
+#[derive(Clone, Copy)]
 pub struct OscillatorSpec {
     pub oscillator_type: OscillatorType,
     pub frequency: Parameter,
@@ -32,7 +32,7 @@ pub struct OscillatorSpec {
 }
 
 // How a running oscillator takes its input: Plain takes none.
-#[derive(Drop)]
+#[derive(Clone, Copy)]
 pub enum Driven {
     Plain,
     ByPhase,
@@ -41,14 +41,14 @@ pub enum Driven {
 
 // What an oscillator remembers: where its wave stands, and the phase parameter of its last window.
 #[repr(C)]
-#[derive(Drop)]
+#[derive(Clone, Copy)]
 pub struct Phases {
     pub phase: f64,
     pub saved: f64,
 }
 
 // What a window fixes for all its samples.
-#[derive(Drop)]
+#[derive(Clone, Copy)]
 pub struct Oscillator {
     pub oscillator_type: OscillatorType,
     pub driven: Driven,
@@ -57,7 +57,7 @@ pub struct Oscillator {
 }
 
 // The memory after a sample, and the sample.
-#[derive(Drop)]
+#[derive(Clone, Copy)]
 pub struct Oscillated {
     pub phases: Phases,
     pub sample: f64,

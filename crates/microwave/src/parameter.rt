@@ -2,7 +2,7 @@
 ghost use Rattle.std.specs.Prelude.{◌≡◌, [], ◌∷◌, if◌then◌else◌};
 ghost use Rattle.microwave.specs.Parameter.{looked, required as requiredAsk, or_zero, or_one, of_pair, ask_list, ask_at, all_found, padded_of, number_for, numbers_of, no_numbers};
 
-#[derive(Drop)]
+#[derive(Clone, Copy)]
 pub enum Parameter {
     Fixed(f64),
     Slot(usize),
@@ -11,14 +11,14 @@ pub enum Parameter {
 }
 
 // What looking a parameter up finds.
-#[derive(Drop)]
+#[derive(Clone, Copy)]
 pub enum Found {
     Number(f64),
     Missing,
 }
 
 // A parameter, and what stands for it where it is absent: Missing for a required one.
-#[derive(Drop)]
+#[derive(Clone, Copy)]
 pub struct Ask {
     pub parameter: Parameter,
     pub absent: Found,
@@ -45,7 +45,7 @@ pub fn lookup(ask: Ask, values: &[f64], seconds: f64) -> Found
 }
 
 // What a stage asks for beside its output's level.
-#[derive(Drop)]
+#[derive(Clone, Copy)]
 pub enum Asks {
     Nothing,
     One(Ask),
@@ -54,7 +54,7 @@ pub enum Asks {
 }
 
 // The numbers that answer a stage's asks, in their order.
-#[derive(Drop)]
+#[derive(Clone, Copy)]
 pub struct Numbers {
     pub first: f64,
     pub second: f64,
@@ -62,7 +62,7 @@ pub struct Numbers {
 }
 
 // As many asks as any stage has: 0.0 answers those that are not there.
-#[derive(Drop)]
+#[derive(Clone, Copy)]
 struct AllThree {
     first: Ask,
     second: Ask,

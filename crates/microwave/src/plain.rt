@@ -8,7 +8,7 @@ ghost use Rattle.microwave.specs.Plain.{clip_limit, shaped_of};
 use numbers::small::{absolute, maximum, minimum};
 
 // Such a stage for a window. Clip has its limit, which `clip_limit` works out.
-#[derive(Drop)]
+#[derive(Clone, Copy)]
 pub enum Shape {
     Pass,
     Pow3,

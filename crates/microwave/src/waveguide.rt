@@ -12,14 +12,14 @@ use util::interaction::LowPassGain;
 use util::low_pass::OnePoleLowPass;
 use util::soft_clip::SoftClip;
 
-#[derive(Drop)]
+#[derive(Clone, Copy)]
 pub enum Reflectance {
     Positive,
     Negative,
 }
 
 // A waveguide of a patch. Its ring has buffer_size + 1 slots.
-#[derive(Drop)]
+#[derive(Clone, Copy)]
 pub struct WaveguideSpec {
     pub buffer_size: usize,
     pub frequency: Parameter,
@@ -30,14 +30,14 @@ pub struct WaveguideSpec {
 
 // What a string remembers beside its ring.
 #[repr(C)]
-#[derive(Drop)]
+#[derive(Clone, Copy)]
 pub struct StringMemory {
     pub low_pass: f64,
     pub position: usize,
 }
 
 // What a window works out once: the low-pass's damping, the gain after it, and how far back the ring is read, with whether it reaches that far.
-#[derive(Drop)]
+#[derive(Clone, Copy)]
 pub struct Guide {
     pub damping: f64,
     pub gain: f64,
@@ -45,7 +45,7 @@ pub struct Guide {
 }
 
 // The memory after a sample, and the sample.
-#[derive(Drop)]
+#[derive(Clone, Copy)]
 pub struct StringStepped {
     pub memory: StringMemory,
     pub sample: f64,

@@ -1,6 +1,6 @@
 -- What comparisons of floats say: of a float with itself, with zero, with any other, and of a float that is not negative with a whole number.
 --     ne_self                      `x != x` asks whether x is a NaN
---     zero_eq, zero_lt, zero_le    a finite float against zero: its sign tells, and whether it has digits
+--     zero_eq, zero_lt, zero-le    a finite float against zero: its sign tells, and whether it has digits
 --     above_only, equal_only       one that is above another is not at or below it; of two that are equal neither is below the other
 --     whole_lt, whole_le           m * 2 ^ e against a float whose value is the whole number n
 -- Assumes nothing.
@@ -55,9 +55,9 @@ or_again : (s a : Bool) → (s && not a || a) ≡ (s || a)
 or_again true a = not-or_self a
 or_again false a = refl
 
-pub zero_le : (s : Bool) (m : ℕ) (e : ℤ) → le (fin s m e) zero64 ≡ (s || eqb m 0)
+pub zero-le : (s : Bool) (m : ℕ) (e : ℤ) → le (fin s m e) zero64 ≡ (s || eqb m 0)
 unfolding le
-zero_le s m e = rw (zero_lt s m e, zero_eq s m e, or_again)
+zero-le s m e = rw (zero_lt s m e, zero_eq s m e, or_again)
 
 -- ---- with any other
 

@@ -4,7 +4,7 @@
 --     offset_le        what that gives is at most n
 --     offset_zero      it is 0.0 where the held fraction is
 -- Assumes nothing.
-use Rattle.std.proofs.Common.{◌≡◌, ℕ, zero, suc, ◌*◌, ◌^◌, ◌<◌, ◌≤◌, Bool, true, false, cond, T, pos, sym, refl, ap, ◌∙◌, subst, zero_le, le_trans, le_of_eq, mul_assoc, mul-le-mul_left, mul-pos, one-mul, mul-zero, zero-mul, mul-one, arith, ltb-false}
+use Rattle.std.proofs.Common.{◌≡◌, ℕ, zero, suc, ◌*◌, ◌^◌, ◌<◌, ◌≤◌, Bool, true, false, cond, T, pos, sym, refl, ap, ◌∙◌, subst, zero-le, le_trans, le_of_eq, mul_assoc, mul-le-mul_left, mul-pos, one-mul, mul-zero, zero-mul, mul-one, arith, ltb-false}
 use lib.Dec.{eqb-suc-zero}
 use lib.Ieee.{Float, nan, inf, fin, binary64, of_bits, of_int, round, mul, lt, le, is_nan, up, down}
 use lib.Ieee.Bits.{is_true}
@@ -23,7 +23,7 @@ use Rattle.numbers.proofs.RoundUp.{up_is, ceil_le}
 -- ---- a fraction held in 0..1
 
 zero_within : Within 1 zero64
-zero_within = unfold of_bits in plus 0 (pos 0) zero_le
+zero_within = unfold of_bits in plus 0 (pos 0) zero-le
 
 one_within : Within 1 one64
 one_within = unfold of_bits in plus 1 (pos 0) (omega arith)

@@ -1,5 +1,5 @@
 -- A float within 0 to 2 ^ 53 rounded up, from its whole part and from whether there is more. Assumes nothing.
-use Rattle.std.proofs.Common.{◌≡◌, ℕ, suc, ◌+◌, ◌-◌, ◌*◌, ◌/◌, ◌^◌, ◌<◌, ◌≤◌, true, false, ltb, ℤ, pos, sym, refl, ◌∙◌, zero_le, div-lt_iff_lt-mul, zero-mul, div-mul-le_self, arith, ltb-false, ltb-true, lt-ltb, le-leb}
+use Rattle.std.proofs.Common.{◌≡◌, ℕ, suc, ◌+◌, ◌-◌, ◌*◌, ◌/◌, ◌^◌, ◌<◌, ◌≤◌, true, false, ltb, ℤ, pos, sym, refl, ◌∙◌, zero-le, div-lt_iff_lt-mul, zero-mul, div-mul-le_self, arith, ltb-false, ltb-true, lt-ltb, le-leb}
 use native.Mathlib.Nat.{div-eq_of_lt-le, lt-mul-div-succ}
 use lib.Ieee.{Float, fin, binary64, of_int, of_bits, to_unsigned, round, eq, lt, le, up, down}
 use lib.Ieee.Fits.{down_pos}
@@ -32,7 +32,7 @@ back_below m e h =
     rw (cast_is m e h) (whole_lt (round binary64 false q 1) q m e (round_whole binary64 false q (part_le (2 ^ 53) m e h)))
 
 pub cast_le : {x : Float} → Within (2 ^ 53) x → to_unsigned 64 x ≤ 2 ^ 53
-cast_le (minus_zero e) = unfold to_unsigned in zero_le
+cast_le (minus_zero e) = unfold to_unsigned in zero-le
 cast_le (plus m e h) = rw (cast_is m e h) (part_le (2 ^ 53) m e h)
 
 pub up_one : {x : Float} → Within (2 ^ 53) x → lt (of_int binary64 (pos (to_unsigned 64 x))) x ≡ true → to_unsigned 64 x + 1 ≡ ceil_of x
@@ -54,5 +54,5 @@ up_is (plus m e h) = simp (le_test, le-leb (0 * down e) (m * up e * 1) (omega ar
 
 pub ceil_le : {n : ℕ} {x : Float} → Within n x → ceil_of x ≤ n
 unfolding ceil_of
-ceil_le (minus_zero e) = zero_le
+ceil_le (minus_zero e) = zero-le
 ceil_le {n} (plus m e h) = up_le n (m * up e) (down e) (down_pos e) h

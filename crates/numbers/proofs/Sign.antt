@@ -15,7 +15,7 @@ use Rattle.numbers.specs.Small.{negative, abs_of}
 use Rattle.numbers.specs.Turns.{negated_of}
 use Rattle.numbers.specs.Zeros.{is_plus_zero}
 use Rattle.numbers.specs.Inside.{is_minus_zero}
-use Rattle.numbers.proofs.Compare.{falsehood, size_pos, zero_eq, zero_lt, zero_le}
+use Rattle.numbers.proofs.Compare.{falsehood, size_pos, zero_eq, zero_lt, zero-le}
 use Rattle.numbers.proofs.Rounding.{round-own, round_zero}
 use Rattle.numbers.proofs.MinusZero.{minus_digits}
 
@@ -40,7 +40,7 @@ magnitude-below (inf true) t h = refl
 magnitude-below (inf false) t h = unfold le in falsehood h
 magnitude-below (fin true m e) t h = simp (zero-mul, mul-one, one-mul, zero-add) (round-own false m e (neg-fits binary64 (fin true m e) t))
 magnitude-below (fin false zero e) t h = simp (zero-mul, one-mul) (rw zero-mul at (round-own false zero e t))
-magnitude-below (fin false (suc m) e) t h = falsehood (sym (zero_le false (suc m) e ∙ eqb-suc-zero m) ∙ h)
+magnitude-below (fin false (suc m) e) t h = falsehood (sym (zero-le false (suc m) e ∙ eqb-suc-zero m) ∙ h)
 
 zero_and_zero : (t : Bool) (c : ℕ) → 0 < c → sum binary64 false 0 t 0 c ≡ zero64
 unfolding sum of_bits
@@ -57,7 +57,7 @@ zero_less nan t = unfold eq in refl
 zero_less (inf s) t = unfold eq in refl
 zero_less (fin s zero e) t = simp (zero-mul, one-mul, zero_eq) (zero_and_zero (not s) (down e) (down_pos e))
 zero_less (fin true (suc m) e) t =
-    rw (zero_eq true (suc m) e, eqb-suc-zero) (magnitude-below (fin true (suc m) e) t (zero_le true (suc m) e) ∙ unfold abs_of in refl)
+    rw (zero_eq true (suc m) e, eqb-suc-zero) (magnitude-below (fin true (suc m) e) t (zero-le true (suc m) e) ∙ unfold abs_of in refl)
 zero_less (fin false (suc m) e) t =
     simp (zero_eq, eqb-suc-zero, zero-mul, mul-one, one-mul) (below_zero (suc m * up e) (down e) (size_pos m e) ∙ round-own true (suc m) e (neg-fits binary64 (fin false (suc m) e) t))
 
@@ -66,7 +66,7 @@ unfolding abs_of
 magnitude_above nan h = refl
 magnitude_above (inf true) h = unfold le lt of_bits in falsehood (sym h)
 magnitude_above (inf false) h = refl
-magnitude_above (fin true m e) h = falsehood (sym h ∙ zero_le true m e)
+magnitude_above (fin true m e) h = falsehood (sym h ∙ zero-le true m e)
 magnitude_above (fin false m e) h = refl
 
 pub zero_minus : (x : Float) → T (fits binary64 x) → is_minus_zero x ≡ (eq x zero64 && negative x)

@@ -3,7 +3,7 @@ ghost use Rattle.std.specs.Prelude.{◌≡◌};
 ghost use Rattle.numbers.specs.Ceil.{up_of, rounded_up_of};
 
 // A number rounded up, and the gap from the number up to it.
-#[derive(Drop)]
+#[derive(Clone, Copy)]
 pub struct Up {
     pub whole: u64,
     pub gap: f64,

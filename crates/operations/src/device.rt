@@ -11,7 +11,7 @@ use words::number::{from_word, to_word};
 // What a device keeps, and what its last operation answered. Each sort has its own part of it: the position in a ring; the low-pass of a
 // response, or a low-pass by itself; the factor, which is a response's gain, an all-pass's feedback, or up to where a soft clip is linear;
 // and a comb's limit.
-#[derive(Drop)]
+#[derive(Clone, Copy)]
 pub(crate) struct Device {
     pub(crate) sort: u64,
     pub(crate) position: usize,
@@ -28,14 +28,14 @@ pub(crate) struct Device {
 }
 
 // A device as its settings have it, and the place after them.
-#[derive(Drop)]
+#[derive(Clone, Copy)]
 struct Set {
     place: Place,
     device: Device,
 }
 
 // An operation and its arguments, and the place after them.
-#[derive(Drop)]
+#[derive(Clone, Copy)]
 struct Request {
     place: Place,
     operation: u64,

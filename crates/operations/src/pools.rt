@@ -17,7 +17,7 @@ pub type Zeros = [f64; 8192];
 pub type Cells = [f64; 131072];
 
 // How much of each array a case lends with its pools.
-#[derive(Drop)]
+#[derive(Clone, Copy)]
 pub struct Lengths {
     pub internal: usize,
     pub external: usize,
@@ -25,7 +25,7 @@ pub struct Lengths {
 }
 
 // Counts and capacities as lent, the lengths of the three slices, and the place after them.
-#[derive(Drop)]
+#[derive(Clone, Copy)]
 pub struct Sizes {
     pub place: Place,
     pub pools: Pools,
@@ -33,7 +33,7 @@ pub struct Sizes {
 }
 
 // Pools with their marks, and the place after them.
-#[derive(Drop)]
+#[derive(Clone, Copy)]
 pub struct Marked {
     pub place: Place,
     pub pools: Pools,

@@ -24,7 +24,7 @@ const COUNTS: [u64; 18] = [2, 0, 0, 2, 1, 1, 2, 1, 1, 2, 1, 2, 1, 0, 0, 0, 0, 0]
 const MOST_VALUES: usize = 8192;
 
 // An operation and what it names, and the place after it. Buffers are words.
-#[derive(Drop)]
+#[derive(Clone, Copy)]
 pub(crate) struct Request {
     pub(crate) place: Place,
     pub(crate) operation: u64,

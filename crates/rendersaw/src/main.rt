@@ -1,5 +1,7 @@
 // Renders one window of a sawtooth and writes its samples in hex: frequency 1, eight samples of an eighth of a second, into internal buffer 0.
 // Rests on `magnetron` for the pools and on `engine` for the run; what it writes is compared with document 01's listing.
+#![tactic(auto)]
+
 use engine::run::run;
 use magnetron::buffer::BufferIndex;
 use magnetron::pool::Pools;

@@ -1,5 +1,7 @@
 // For tests. Words in, words out: reads cases on standard input until it ends, and writes their answers on standard output. FORMAT.md beside this
 // folder defines both. Rests on `stream` for the words; sorts 1 and 10 are answered here, the others by `operations`.
+#![tactic(auto)]
+
 mod patch_file;
 mod reaches;
 mod session;

@@ -10,7 +10,7 @@ use stream::place::{Buffer, Place};
 
 // What comes before the stages, with their count: what answers include, and how much of each array is lent. Nothing is stale in the pools
 // yet.
-#[derive(Drop)]
+#[derive(Clone, Copy)]
 struct Heading {
     place: Place,
     wanted: Wanted,

@@ -19,7 +19,7 @@ use stream::place::{Buffer, Place};
 use words::number::from_word;
 
 // What goes from window to window by value: the place in the streams, the pools and the states.
-#[derive(Drop)]
+#[derive(Clone, Copy)]
 pub(crate) struct Session {
     pub(crate) place: Place,
     pub(crate) pools: Pools,
@@ -27,14 +27,14 @@ pub(crate) struct Session {
 }
 
 // What the answer to a window includes besides the pools: states and rings, and what each stage reached.
-#[derive(Drop)]
+#[derive(Clone, Copy)]
 pub(crate) struct Wanted {
     pub(crate) states: bool,
     pub(crate) reaches: bool,
 }
 
 // What a window begins with, and the place after it.
-#[derive(Drop)]
+#[derive(Clone, Copy)]
 struct Opening {
     place: Place,
     prepares: bool,
@@ -44,7 +44,7 @@ struct Opening {
 }
 
 // What a run is asked for: whether prepare comes first, the window's length, the sample width, and the order.
-#[derive(Drop)]
+#[derive(Clone, Copy)]
 struct Asked {
     prepares: bool,
     n: usize,
@@ -54,7 +54,7 @@ struct Asked {
 }
 
 // What a run is asked for, the pools as the host has set them, and the place after it.
-#[derive(Drop)]
+#[derive(Clone, Copy)]
 struct AskedRead {
     place: Place,
     pools: Pools,
@@ -62,7 +62,7 @@ struct AskedRead {
 }
 
 // An order, and the place after it.
-#[derive(Drop)]
+#[derive(Clone, Copy)]
 struct Order {
     place: Place,
     count: usize,

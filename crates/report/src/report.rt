@@ -15,7 +15,7 @@ use words::reader::{Cursor, Taken};
 const MOST: u64 = 4_294_967_295;
 
 // The six figures, in document 02's order, and the last sign that was met, to which the next one is held.
-#[derive(Drop)]
+#[derive(Clone, Copy)]
 pub struct Report {
     pub samples: u64,
     pub nans: u64,
@@ -27,7 +27,7 @@ pub struct Report {
 }
 
 // 0 with the report of all that came, or a refusal's number with the report as it was.
-#[derive(Drop)]
+#[derive(Clone, Copy)]
 pub struct Added {
     pub number: usize,
     pub report: Report,

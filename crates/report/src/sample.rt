@@ -10,7 +10,7 @@ pub(crate) const INFINITY: u64 = 0x7ff0_0000_0000_0000;
 pub(crate) const ONE: u64 = 0x3ff0_0000_0000_0000;
 
 // Zeros and NaNs have neither.
-#[derive(Drop)]
+#[derive(Clone, Copy)]
 pub enum Sign {
     Neither,
     Positive,

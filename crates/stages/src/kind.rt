@@ -19,7 +19,7 @@ use microwave::parameter::{
 use microwave::plain::Shape;
 use microwave::waveguide::WaveguideSpec;
 
-#[derive(Drop)]
+#[derive(Clone, Copy)]
 pub enum Kind {
     Pass {
         input: BufferIndex,
@@ -60,14 +60,14 @@ pub enum Kind {
 }
 
 // A second output, with its level and its gain.
-#[derive(Drop)]
+#[derive(Clone, Copy)]
 pub struct Side {
     pub output: BufferIndex,
     pub out_level: Parameter,
     pub gain: Parameter,
 }
 
-#[derive(Drop)]
+#[derive(Clone, Copy)]
 pub enum Second {
     Nothing,
     Right(Side),

@@ -16,14 +16,14 @@ use microwave::window::{
 use util::reach::Reach;
 
 // Where a stage's loop finds its inputs; zeros where it has fewer than two.
-#[derive(Drop)]
+#[derive(Clone, Copy)]
 pub struct Sources {
     pub first: Source,
     pub second: Source,
 }
 
 // What a stage does at each sample of a window, with numbers worked out once.
-#[derive(Drop)]
+#[derive(Clone, Copy)]
 pub enum Machine {
     Plain(Shape),
     Oscillator(Oscillator),
@@ -34,7 +34,7 @@ pub enum Machine {
 }
 
 // What a stage keeps after one sample, and the sample.
-#[derive(Drop)]
+#[derive(Clone, Copy)]
 pub struct Sampled {
     pub state: State,
     pub sample: f64,

@@ -7,14 +7,14 @@ use crate::stage::Stage;
 use crate::state::States;
 
 // At most 32 stages; those from `count` on are not there.
-#[derive(Drop)]
+#[derive(Clone, Copy)]
 pub struct Patch {
     pub count: usize,
     pub stages: [Stage; 32],
 }
 
 // Where the rings of the stages begin, by stage number.
-#[derive(Drop)]
+#[derive(Clone, Copy)]
 pub struct Starts {
     pub at: [usize; 32],
 }

@@ -5,13 +5,13 @@ ghost use Rattle.stages.specs.Reach.{all_within};
 use util::reach::Reach;
 
 // The answer of one stage. An array holds records and no enums.
-#[derive(Drop)]
+#[derive(Clone, Copy)]
 pub struct StageReach {
     pub reach: Reach,
 }
 
 // One answer for each of 32 stages, by stage number.
-#[derive(Drop)]
+#[derive(Clone, Copy)]
 pub struct Reaches {
     pub stages: [StageReach; 32],
 }

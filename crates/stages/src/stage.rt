@@ -10,7 +10,7 @@ use magnetron::buffer::BufferIndex;
 use magnetron::outputs::Outputs;
 use microwave::parameter::{Asks, Parameter, of_pair, or_one};
 
-#[derive(Drop)]
+#[derive(Clone, Copy)]
 pub struct Stage {
     pub kind: Kind,
     pub output: BufferIndex,

@@ -8,7 +8,7 @@ use microwave::parameter::Numbers;
 use microwave::waveguide::StringMemory;
 
 #[repr(C)]
-#[derive(Drop)]
+#[derive(Clone, Copy)]
 pub struct State {
     pub oscillator: Phases,
     pub one_pole: OnePoleMemory,
@@ -18,7 +18,7 @@ pub struct State {
 
 // One record for each of 32 stages, by stage number.
 #[repr(C)]
-#[derive(Drop)]
+#[derive(Clone, Copy)]
 pub struct States {
     pub stages: [State; 32],
 }

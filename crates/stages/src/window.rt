@@ -3,7 +3,7 @@ ghost use Rattle.std.specs.Prelude.{◌≡◌};
 ghost use Rattle.stages.specs.Stage.{window_of};
 
 // How many samples, how wide each, how long all of them.
-#[derive(Drop)]
+#[derive(Clone, Copy)]
 pub struct RenderWindow {
     pub buffer_len: usize,
     pub sample_width_secs: f64,

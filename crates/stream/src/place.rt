@@ -14,7 +14,7 @@ pub type Buffer = [u8; 65536];
 
 // What is unread of the input's buffer, how many bytes of the output's are to be sent, and whether all is over: the input has ended, a
 // write failed, or a case is refused.
-#[derive(Drop)]
+#[derive(Clone, Copy)]
 pub struct Place {
     pub unread: Cursor,
     pub filled: usize,
@@ -23,21 +23,21 @@ pub struct Place {
 }
 
 // A word of the input and the place after it. Where all is over, the word is 0.
-#[derive(Drop)]
+#[derive(Clone, Copy)]
 pub struct Next {
     pub place: Place,
     pub word: u64,
 }
 
 // Up to sixteen words of the input and the place after them.
-#[derive(Drop)]
+#[derive(Clone, Copy)]
 pub struct Words {
     pub place: Place,
     pub at: [u64; 16],
 }
 
 // Up to three words of the input and the place after them. A word that was not asked for is 0.
-#[derive(Drop)]
+#[derive(Clone, Copy)]
 pub struct Few {
     pub place: Place,
     pub a: u64,

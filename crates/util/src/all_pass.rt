@@ -9,13 +9,13 @@ use crate::delay_line::{Cursor, Read, delayed_sample, in_ring, slot_after};
 use crate::reach::Reach;
 use answers::verdict::{Verdict, done, refusal};
 
-#[derive(Drop)]
+#[derive(Clone, Copy)]
 pub struct AllPassDelay {
     pub cursor: Cursor,
     pub feedback: f64,
 }
 
-#[derive(Drop)]
+#[derive(Clone, Copy)]
 pub struct Passed {
     pub verdict: Verdict,
     pub delay: AllPassDelay,

@@ -12,14 +12,14 @@ use crate::soft_clip::SoftClip;
 use answers::verdict::{Verdict, done, refusal};
 use answers::zeros::fill_with_zeros;
 
-#[derive(Drop)]
+#[derive(Clone, Copy)]
 pub struct CombFilter {
     pub cursor: Cursor,
     pub response: AnyInteraction,
     pub limit: AnyInteraction,
 }
 
-#[derive(Drop)]
+#[derive(Clone, Copy)]
 pub struct Combed {
     pub verdict: Verdict,
     pub comb: CombFilter,
@@ -27,7 +27,7 @@ pub struct Combed {
     pub reach: Reach,
 }
 
-#[derive(Drop)]
+#[derive(Clone, Copy)]
 pub struct Muted {
     pub verdict: Verdict,
     pub comb: CombFilter,
@@ -109,14 +109,14 @@ impl CombFilter {
 }
 
 // A waveguide's comb: its response is a low-pass followed by a gain, its limit a soft clip.
-#[derive(Drop)]
+#[derive(Clone, Copy)]
 pub struct TunedComb {
     pub cursor: Cursor,
     pub response: LowPassGain,
     pub limit: SoftClip,
 }
 
-#[derive(Drop)]
+#[derive(Clone, Copy)]
 pub struct Tuned {
     pub comb: TunedComb,
     pub sample: f64,

@@ -10,18 +10,18 @@ use answers::zeros::fill_with_zeros;
 
 // The slot that is written: a place of a ring where it is below the ring's length.
 #[repr(C)]
-#[derive(Drop)]
+#[derive(Clone, Copy)]
 pub struct Cursor {
     pub position: usize,
 }
 
-#[derive(Drop)]
+#[derive(Clone, Copy)]
 pub struct Moved {
     pub verdict: Verdict,
     pub cursor: Cursor,
 }
 
-#[derive(Drop)]
+#[derive(Clone, Copy)]
 pub struct Tapped {
     pub verdict: Verdict,
     pub sample: f64,
@@ -29,7 +29,7 @@ pub struct Tapped {
 }
 
 // How far back a fractional read goes: the offset rounded up, what that added, and whether the ring reaches as far as was asked.
-#[derive(Drop)]
+#[derive(Clone, Copy)]
 pub struct Delay {
     pub whole: usize,
     pub rest: f64,
@@ -37,14 +37,14 @@ pub struct Delay {
 }
 
 // How a ring is read: at the whole delay, or at a fraction of its length.
-#[derive(Drop)]
+#[derive(Clone, Copy)]
 pub enum Read {
     Whole,
     Fract(f64),
 }
 
 // What a read answers in a ring.
-#[derive(Drop)]
+#[derive(Clone, Copy)]
 pub(crate) struct Delayed {
     pub sample: f64,
     pub reach: Reach,

@@ -6,13 +6,13 @@ use crate::low_pass::OnePoleLowPass;
 use crate::soft_clip::SoftClip;
 
 // A low-pass followed by a gain.
-#[derive(Drop)]
+#[derive(Clone, Copy)]
 pub struct LowPassGain {
     pub first: OnePoleLowPass,
     pub second: f64,
 }
 
-#[derive(Drop)]
+#[derive(Clone, Copy)]
 pub struct LowPassGained {
     pub next: LowPassGain,
     pub sample: f64,
@@ -53,14 +53,14 @@ impl LowPassGain {
 }
 
 // What a comb answers through, or writes through.
-#[derive(Drop)]
+#[derive(Clone, Copy)]
 pub enum AnyInteraction {
     Gain(f64),
     SoftClip(SoftClip),
     LowPassGain(LowPassGain),
 }
 
-#[derive(Drop)]
+#[derive(Clone, Copy)]
 pub struct Interacted {
     pub next: AnyInteraction,
     pub sample: f64,

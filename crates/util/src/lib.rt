@@ -1,4 +1,6 @@
 // Rings and their parts: the delay line, the interactions, and the comb and the all-pass made of them.
+#![tactic(auto)]
+
 pub mod all_pass;
 pub mod comb_filter;
 pub mod delay_line;

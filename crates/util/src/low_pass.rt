@@ -5,13 +5,13 @@ ghost use Rattle.util.specs.Interaction.{step, low_pass_of, low_pass_at, damping
 
 const TAU: f64 = 6.283185307179586;
 
-#[derive(Drop)]
+#[derive(Clone, Copy)]
 pub struct OnePoleLowPass {
     pub damping: f64,
     pub state: f64,
 }
 
-#[derive(Drop)]
+#[derive(Clone, Copy)]
 pub struct Filtered {
     pub filter: OnePoleLowPass,
     pub sample: f64,

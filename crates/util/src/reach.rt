@@ -2,7 +2,7 @@
 ghost use Rattle.std.specs.Prelude.{◌≡◌};
 ghost use Rattle.util.specs.Reach.{reach_of, number_of};
 
-#[derive(Drop)]
+#[derive(Clone, Copy)]
 pub enum Reach {
     Within,
     Below,

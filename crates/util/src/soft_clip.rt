@@ -2,12 +2,12 @@
 ghost use Rattle.std.specs.Prelude.{◌≡◌};
 ghost use Rattle.util.specs.Interaction.{step, soft_clip_of};
 
-#[derive(Drop)]
+#[derive(Clone, Copy)]
 pub struct SoftClip {
     pub linear_until: f64,
 }
 
-#[derive(Drop)]
+#[derive(Clone, Copy)]
 pub struct Clipped {
     pub clip: SoftClip,
     pub sample: f64,

@@ -7,20 +7,20 @@ ghost use Rattle.words.specs.Reader.{taken_of, front_of, filled_of};
 use crate::number::from_word;
 
 // What is left of a lent buffer: its bytes from `at` up to, not including, `end`.
-#[derive(Drop)]
+#[derive(Clone, Copy)]
 pub struct Cursor {
     pub at: usize,
     pub end: usize,
 }
 
-#[derive(Drop)]
+#[derive(Clone, Copy)]
 pub enum Taken {
     Word(u64, Cursor),
     Short,
 }
 
 // The cursor after samples were filled, and the index of the next sample.
-#[derive(Drop)]
+#[derive(Clone, Copy)]
 pub struct Filled {
     pub cursor: Cursor,
     pub next: usize,

@@ -6,7 +6,7 @@ ghost use Rattle.words.specs.Writer.{put_of, poured_of};
 
 use crate::number::to_word;
 
-#[derive(Drop)]
+#[derive(Clone, Copy)]
 pub enum Stored {
     // Where the next word goes.
     Next(usize),
@@ -14,7 +14,7 @@ pub enum Stored {
 }
 
 // Where the next word goes after samples were poured, and the index of the next sample.
-#[derive(Drop)]
+#[derive(Clone, Copy)]
 pub struct Poured {
     pub at: usize,
     pub next: usize,

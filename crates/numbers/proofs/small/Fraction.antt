@@ -1,6 +1,6 @@
 -- x minus its whole part, without a cast: from 0 to below 1 it is x + 0.0, which makes -0.0 +0.0, and from 1 to below 2 it is x - 1.0.
 -- Assumes nothing.
-use Rattle.std.proofs.Common.{◌≡◌, ℕ, ◌*◌, ◌<◌, ◌≤◌, true, false, ◌&&◌, ℤ, pos, sym, refl, ap, ◌∙◌, zero_le, add-zero, zero-mul, mul-one, arith, ltb-true, le-ltb, ne_eqb, leb-true}
+use Rattle.std.proofs.Common.{◌≡◌, ℕ, ◌*◌, ◌<◌, ◌≤◌, true, false, ◌&&◌, ℤ, pos, sym, refl, ap, ◌∙◌, zero-le, add-zero, zero-mul, mul-one, arith, ltb-true, le-ltb, ne_eqb, leb-true}
 use mathlib.Core.Bool.{and-false, and-eq-true_iff}
 use native.Mathlib.Nat.{sub-zero}
 use lib.Ieee.{Float, nan, inf, fin, binary64, of_bits, add, sub, sum, neg, lt, le, eq, up, down}
@@ -14,7 +14,7 @@ use Rattle.numbers.proofs.WholePart.{whole_none, whole-one}
 -- x + 0.0 is x less a zero of its sign
 plus_zero : (m : ℕ) (e : ℤ) → add binary64 (fin false m e) zero64 ≡ sub binary64 (fin false m e) (fin false 0 (pos 0))
 unfolding sub add neg sum of_bits
-plus_zero m e = simp (zero-mul, mul-one, add-zero, sub-zero, le-ltb (m * up e) 0 zero_le)
+plus_zero m e = simp (zero-mul, mul-one, add-zero, sub-zero, le-ltb (m * up e) 0 zero-le)
 
 minus_zero : (m : ℕ) (e : ℤ) → add binary64 (fin true m e) zero64 ≡ sub binary64 (fin true m e) (fin true 0 (pos 0))
 unfolding sub neg of_bits
