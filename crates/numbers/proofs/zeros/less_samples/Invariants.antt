@@ -1,0 +1,13 @@
+-- `numbers::zeros::less_samples` meets its contract. The invariant: the differences and the samples from `from + k` on tell what they told at the start.
+-- Assumes nothing.
+use Rattle.std.proofs.Common.{◌≡◌, ◌+◌, ◌-◌, ◌≤◌, ◌&&◌, length, drop, ◌∙◌, add-zero, arith, rules}
+use Rattle.numbers.specs.Zeros.{all_plus_zero}
+use Rattle.numbers.specs.Inside.{all_minus_zero}
+use Rattle.numbers.proofs.zeros.Scan.{less_step}
+use Rattle.numbers.proofs.zeros.less_samples.Given as goal
+
+abbrev pub invariant-loop-k : goal.invariant-loop-k
+invariant-loop-k l = (l.k ≤ l.count) × (length l.differences ≡ 8) × ((all_minus_zero l.differences && all_plus_zero (drop (l.from + l.k) l.s)) ≡ (all_minus_zero l.initial.differences && all_plus_zero (drop l.from l.s)))
+
+abbrev pub decreases-loop-k : goal.decreases-loop-k
+decreases-loop-k l = l.count - l.k
