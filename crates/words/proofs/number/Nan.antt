@@ -1,6 +1,6 @@
 -- Which words and which numbers are NaN.
 --     word_nan     a word is NaN's just where it is above infinity's, the sign apart
---     is_nan_lem       there is one NaN
+--     is_nan_lem   there is one NaN
 --     no_nan       a number that is equal to itself is none
 -- Assumes nothing.
 use mathlib.Core.Path.{◌≡◌, refl, sym, ◌∙◌}
