@@ -1,6 +1,6 @@
 -- Each public contract of `util` determines what is seen of a call: the result, and what a lent ring holds then.
 -- `Reads.Post`, which Rattle makes of a function's `ensures`, is the contract itself: no copy of it is written here. Assumes nothing.
-use Rattle.std.proofs.Common.{◌≡◌, ℕ, refl, ap, Bor}
+use Rattle.std.proofs.Common.{◌≡◌, ℕ, refl, ap, MutBor}
 use seplogic.Ra.Ura.{Ura}
 use base.Logic.{SProp}
 use prog.Memory.{Memory}
@@ -99,11 +99,11 @@ pub all_pass_determined : Answer all-pass-feedback.Post × Determined (λ r s. o
     × Determined (λ r s. outcome r s.1.0.now) all-pass-fract.Post × Determined (λ r s. outcome r s.1.0.now) all-pass-mute.Post
 all_pass_determined = (by_definition, by_definition, by_definition, by_definition)
 
--- ---- proved by a walk, so that there is no `Reads`: `lent_is` says by `refl` that what is written here is its `ensures`
-abbrev pub Lent : Bor Cursor × ℕ → Verdict → Bor Cursor → Type 0
+-- ---- of a lent cursor: the contract over what was lent and what stands there then; `lent_is` says by `refl` that what is written here is its `ensures`
+abbrev pub Lent : MutBor Cursor × ℕ → Verdict → MutBor Cursor → Type 0
 Lent a r c = outcome r c.now ≡ advanced_there a.0.now a.1
 
-pub lent_is : {M : Type 1} {𝓤 : Ura M} (𝓛 : Logic 𝓤) (at_mem : Memory → SProp 𝓤) (run : Routine → Fun 𝓤) (κs : Lfts 1) (c c' : Bor Cursor) (n : ℕ) (r : Verdict)
+pub lent_is : {M : Type 1} {𝓤 : Ura M} (𝓛 : Logic 𝓤) (at_mem : Memory → SProp 𝓤) (run : Routine → Fun 𝓤) (κs : Lfts 1) (c c' : MutBor Cursor) (n : ℕ) (r : Verdict)
     → lent.ensures-1 𝓛 κs at_mem run c n (record { entry = c; exit = c' }) (record { entry = n; exit = n }) r ≡ fact 𝓤 (Lent (c, n) r c')
 lent_is 𝓛 at_mem run κs c c' n r = refl
 
