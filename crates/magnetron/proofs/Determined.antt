@@ -26,7 +26,7 @@ use Rattle.magnetron.proofs.outputs.Outputs.clear_of.Reads as clear-of
 use Rattle.magnetron.proofs.outputs.Outputs.clear.Reads as clear-outputs
 use Rattle.magnetron.proofs.outputs.Outputs.louder.Reads as louder
 use Rattle.magnetron.proofs.check.check_prepare.Reads as check-prepare
-use Rattle.magnetron.proofs.source.source_of.Reads as source_of
+use Rattle.magnetron.proofs.source.source_of.Reads as source-of
 use Rattle.magnetron.proofs.source.fetch.Reads as fetch
 use Rattle.magnetron.proofs.block.fetch_block.Reads as fetch-block
 use Rattle.magnetron.proofs.block.scaled.Reads as scaled
@@ -59,7 +59,7 @@ inputs_determined = by_definition
 pub outputs_determined : Answer there.Post × Answer differ.Post × Answer clear-of.Post × Answer clear-outputs.Post × Answer louder.Post
 outputs_determined = (by_definition, by_definition, by_definition, by_definition, by_definition)
 
-pub source_determined : Answer source_of.Post × Answer fetch.Post
+pub source_determined : Answer source-of.Post × Answer fetch.Post
 source_determined = (by_definition, by_definition)
 
 pub block_determined : Answer fetch-block.Post × Answer scaled.Post × Determined (λ r s. s.0.now) write-block.Post

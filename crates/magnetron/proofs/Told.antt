@@ -11,7 +11,7 @@
 use mathlib.Core.Path.{◌≡◌, refl, sym, ap, subst, ◌∙◌}
 use mathlib.Core.Logic.{inl, inr}
 use mathlib.Core.Bool.{Bool, true, false, not, ◌&&◌, ◌||◌, cond, false≢true, true≢false, or-true}
-use mathlib.Core.List.{List, ◌∷◌}
+use mathlib.Core.List.{List, [], ◌∷◌}
 use Prim.Native.Nat.{ℕ, ◌+◌, ◌*◌, ◌<◌, ◌≤◌}
 use native.Mathlib.Omega.{arith}
 use lib.Dec.{leb, eqb}
@@ -91,6 +91,7 @@ room_by i count capacity len n b h k =
     }
 
 pub all_there_lem : (p : Pools) (bs : List BufferIndex) → all_there p bs ≡ true → (b : BufferIndex) → Among b bs → has_buffer p b ≡ true
+all_there_lem p [] e b k = elim k [ ]
 all_there_lem p (c ∷ bs) e b (inl q) = ap (has_buffer p) q ∙ and_left _ _ e
 all_there_lem p (c ∷ bs) e b (inr m) = all_there_lem p bs (and_right (has_buffer p c) _ e) b m
 
@@ -142,6 +143,7 @@ module _ (p : Pools) (internal external n : ℕ) (h : Held p internal external n
 -- ---- check 7
 
 hits-among : (o b : BufferIndex) (ins : List BufferIndex) → Among b ins → same_buffer o b ≡ true → hits o ins ≡ true
+hits-among o b [] k e = elim k [ ]
 hits-among o b (x ∷ ins) (inl q) e = ap (λ (t : Bool). t || hits o ins) (ap (same_buffer o) (sym q) ∙ e)
 hits-among o b (x ∷ ins) (inr m) e = ap (λ (t : Bool). same_buffer o x || t) (hits-among o b ins m e) ∙ or-true (same_buffer o x)
 
@@ -150,6 +152,7 @@ unfoldable pub ApartFrom : Marks → ℕ → BufferIndex → BufferIndex → Typ
 ApartFrom m n o b = 0 < n → o ≡ b → stale_at o m ≡ true
 
 clash-at : (ins os : List BufferIndex) (m : Marks) (o : BufferIndex) → Among o os → clash ins os m ≡ false → (hits o ins && not (stale_at o m)) ≡ false
+clash-at ins [] m o k e = elim k [ ]
 clash-at ins (x ∷ os) m o (inl q) e = ap (λ (c : BufferIndex). hits c ins && not (stale_at c m)) q ∙ or_false_left (hits x ins && not (stale_at x m)) _ e
 clash-at ins (x ∷ os) m o (inr k) e = clash-at ins os m o k (or_false_right (hits x ins && not (stale_at x m)) _ e)
 

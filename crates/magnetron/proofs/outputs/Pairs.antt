@@ -4,7 +4,6 @@ use mathlib.Core.Bool.{Bool, true, false, not, ◌&&◌, ◌||◌, and_assoc, an
 use mathlib.Core.List.{List, [], ◌∷◌, ◌++◌}
 use Prim.Native.Nat.{ℕ}
 use lib.Dec.{eqb}
-use borrow.Author.Tests.{not-true, not-false}
 use Rattle.magnetron.specs.Buffers.{same_buffer, hits, stale_at, list_of, written_by}
 use Rattle.magnetron.specs.Checks.{has_buffer, all_there, no_clash, none_twice}
 use Rattle.magnetron.specs.declared.buffer.Marks.{Marks}
@@ -32,21 +31,21 @@ module _ {o : Outputs} {l r : BufferIndex} (q : o ≡ Two l r) where
     there-both : all_there p (list_of inputs ++ written_by o) ≡ (first && has_buffer p r)
     there-both = rw (q, e) (there_two p l r (list_of inputs))
 
-    pub left_not_there : not first ≡ true → false ≡ all_there p (list_of inputs ++ written_by o)
-    left_not_there t = sym (there-both ∙ ap (λ (b : Bool). b && has_buffer p r) (not-true first t))
+    pub left_not_there : first ≡ false → false ≡ all_there p (list_of inputs ++ written_by o)
+    left_not_there t = sym (there-both ∙ ap (λ (b : Bool). b && has_buffer p r) t)
 
-    pub left_there : not first ≡ false → all_there p (list_of inputs ++ written_by o) ≡ has_buffer p r
-    left_there t = there-both ∙ ap (λ (b : Bool). b && has_buffer p r) (not-false first t)
+    pub left_there : first ≡ true → all_there p (list_of inputs ++ written_by o) ≡ has_buffer p r
+    left_there t = there-both ∙ ap (λ (b : Bool). b && has_buffer p r) t
 
   module _ (n : ℕ) (inputs : Inputs) (m : Marks) {first : Bool} (e : first ≡ no_clash n (list_of inputs) (l ∷ []) m) where
     clear_both : no_clash n (list_of inputs) (written_by o) m ≡ (first && no_clash n (list_of inputs) (r ∷ []) m)
     clear_both = rw (q, e) (clear_two n (list_of inputs) l r m)
 
-    pub left_clashes : not first ≡ true → false ≡ no_clash n (list_of inputs) (written_by o) m
-    left_clashes t = sym (clear_both ∙ ap (λ (b : Bool). b && no_clash n (list_of inputs) (r ∷ []) m) (not-true first t))
+    pub left_clashes : first ≡ false → false ≡ no_clash n (list_of inputs) (written_by o) m
+    left_clashes t = sym (clear_both ∙ ap (λ (b : Bool). b && no_clash n (list_of inputs) (r ∷ []) m) t)
 
-    pub left_clear : not first ≡ false → no_clash n (list_of inputs) (written_by o) m ≡ no_clash n (list_of inputs) (r ∷ []) m
-    left_clear t = clear_both ∙ ap (λ (b : Bool). b && no_clash n (list_of inputs) (r ∷ []) m) (not-false first t)
+    pub left_clear : first ≡ true → no_clash n (list_of inputs) (written_by o) m ≡ no_clash n (list_of inputs) (r ∷ []) m
+    left_clear t = clear_both ∙ ap (λ (b : Bool). b && no_clash n (list_of inputs) (r ∷ []) m) t
 
   pub both_differ : none_twice (written_by o) ≡ not (same_buffer l r)
   both_differ = rw (q, or-false (same_buffer l r), and-true (not (same_buffer l r))) refl

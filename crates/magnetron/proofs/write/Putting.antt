@@ -33,9 +33,10 @@ use Rattle.magnetron.specs.declared.source.Source.TheVariants.{Other}
 use Rattle.magnetron.specs.declared.write.OutLevel.{OutLevel}
 use Rattle.magnetron.proofs.Bridge.{part_tab, zip_tab}
 use Rattle.magnetron.proofs.Places.{only, former, latter}
-use Rattle.magnetron.proofs.Told.{all_there, base_small, apart_from, place-own, clear_source, heard_source, write-own}
+use Rattle.magnetron.proofs.Told.{all_there_lem, base_small, apart_from, place-own, clear_source, heard_source, write-own}
 
 among-append : {A : Type 0} (a : A) (xs ys : List A) → Among a xs → Among a (xs ++ ys)
+among-append a [] ys k = elim k [ ]
 among-append a (x ∷ xs) ys (inl e) = inl e
 among-append a (x ∷ xs) ys (inr m) = inr (among-append a xs ys m)
 
@@ -45,7 +46,7 @@ among_last a (x ∷ xs) = inr (among_last a xs)
 
 module _ {p : Pools} {inputs : Inputs} {own other values : List Float} {output : BufferIndex} {n : ℕ} (w : Writable p inputs own other values output n) where
   there : (b : BufferIndex) → Among b (list_of inputs ++ (output ∷ [])) → has_buffer p b ≡ true
-  there = all_there p (list_of inputs ++ (output ∷ [])) w.there
+  there = all_there_lem p (list_of inputs ++ (output ∷ [])) w.there
 
   output_there : has_buffer p output ≡ true
   output_there = there output (among_last output (list_of inputs))

@@ -1,0 +1,28 @@
+-- `magnetron::content::sample_block` meets its contract: each arm is given that the content is its variant, at which `AllInReach` and `contentOf` compute.
+-- Assumes nothing.
+use mathlib.Core.Path.{ap₂, ◌∙◌}
+use lib.Ieee.{nan, binary64, mul}
+use Rattle.magnetron.proofs.Windows.{tab-at, tab_ext}
+use Rattle.magnetron.proofs.content.sample_block.Goals as goal
+
+pub fetch_block-requires : goal.fetch_block-requires
+fetch_block-requires c = rw c.in-Copy.is at c.requires
+
+pub fetch_block-x-requires : goal.fetch_block-x-requires
+fetch_block-x-requires c =
+    let pre = c.requires in
+    (pre.0, (rw c.in-Product.is at pre.1).0)
+
+pub fetch_block-y-requires : goal.fetch_block-y-requires
+fetch_block-y-requires c =
+    let pre = c.requires in
+    (pre.0, (rw c.in-Product.is at pre.1).1)
+
+pub returns-in-Copy : goal.returns-in-Copy
+returns-in-Copy c = rw (c.in-Copy.is, c.fetch_block.ensures)
+
+pub returns-in-Product : goal.returns-in-Product
+returns-in-Product c =
+    rw c.in-Product.is
+    (c.product_block.ensures
+    ∙ tab_ext 8 _ _ (λ k h. ap₂ (mul binary64) (rw c.fetch_block-x.ensures (tab-at 8 _ k nan h)) (rw c.fetch_block-y.ensures (tab-at 8 _ k nan h))))
