@@ -1,8 +1,6 @@
 -- A level whose other is there, and asks along a list, up to the first that is missing. Assumes nothing.
-use Rattle.std.proofs.Common.{◌≡◌, ℕ, Bool, true, false, cond, List, [], ◌∷◌, sym, refl, ap, ◌∙◌}
+use Rattle.std.proofs.Common.{◌≡◌, ◌≢◌, ℕ, Bool, true, false, cond, List, [], ◌∷◌, sym, refl, ap, ◌∙◌}
 use lib.Ieee.{Float}
-use types.Run.{OneOf, miss}
-use denote.Enum.Declared.{tag_of}
 use Rattle.microwave.specs.Parameter.{looked, required, of_pair, ask_list, all_found}
 use Rattle.microwave.specs.declared.parameter.Parameter.{Parameter}
 use Rattle.microwave.specs.declared.parameter.Parameter.TheVariants.{Fixed, Slot, WindowSeconds, Absent}
@@ -11,19 +9,14 @@ use Rattle.microwave.specs.declared.parameter.Found.TheVariants.{Number, Missing
 use Rattle.microwave.specs.declared.parameter.Ask.{Ask}
 use Rattle.microwave.specs.declared.parameter.Asks.{Asks}
 use Rattle.microwave.specs.declared.parameter.Asks.TheVariants.{Nothing, One, Two, Three}
-use Rattle.microwave.specs.contracts.parameter.Parameter.{the_type}
 
 -- ---- one level of a pair
 
--- the tags of all parameters but Absent
-abbrev there : List ℕ
-there = 0 ∷ 1 ∷ 2 ∷ []
-
-pub other_there : (level other : Parameter) → OneOf there (tag_of the_type other) → required level ≡ of_pair level other
+pub other_there : (level other : Parameter) → other ≢ Absent → required level ≡ of_pair level other
 other_there level (Fixed x) h = refl
 other_there level (Slot i) h = refl
 other_there level WindowSeconds h = refl
-other_there level Absent h = absurd (miss there 3 tt h)
+other_there level Absent h = absurd (h refl)
 
 -- ---- asks by their list
 

@@ -10,7 +10,6 @@ use Rattle.microwave.specs.Arithmetic.{f64_arithmetic}
 use Rattle.microwave.specs.declared.oscillator.OscillatorType.{OscillatorType}
 use Rattle.microwave.specs.declared.oscillator.OscillatorType.TheVariants.{Sin, Sin3, Triangle, Square, Sawtooth}
 use Rattle.microwave.specs.declared.oscillator.Modulation.{Modulation}
-use Rattle.microwave.specs.declared.oscillator.Modulation.TheVariants as Modulation
 use Rattle.microwave.specs.declared.oscillator.Driven.{Driven}
 use Rattle.microwave.specs.declared.oscillator.Driven.TheVariants.{Plain, ByPhase, ByFrequency}
 use Rattle.microwave.specs.declared.oscillator.Phases.{Phases}

@@ -1,0 +1,12 @@
+-- `microwave::window::plain_blocks` meets its contract: the loop's invariant is `Writing`, of the shape over its inputs as signals, and each turn writes a block. Assumes nothing.
+use Rattle.std.proofs.Common.{◌-◌}
+use Rattle.magnetron.specs.Inside.Source.{signal_of}
+use Rattle.magnetron.proofs.Writing.{Writing}
+use Rattle.microwave.specs.Plain.{shaped_of}
+use Rattle.microwave.proofs.window.plain_blocks.Given as goal
+
+abbrev pub invariant-loop-i : goal.invariant-loop-i
+invariant-loop-i l = Writing l.initial.own l.target (λ n. shaped_of l.shape (signal_of l.first l.initial.own l.other n) (signal_of l.second l.initial.own l.other n)) l.own l.i
+
+abbrev pub decreases-loop-i : goal.decreases-loop-i
+decreases-loop-i l = l.target.samples - l.i
