@@ -1,6 +1,6 @@
 -- "The report after two stretches equals the report of the joined stretch, where that one is not refused." For any report and any two stretches;
 -- and what each figure of a report is, over the list of all its samples. It says nothing of two stretches that are accepted where the joined one
--- is not: of a report that samples made there are none, since its room is their number (proofs/Room `room-is-samples`). Assumes nothing.
+-- is not: of a report that samples made there are none, since its room is their number (proofs/Room `room_is_samples`). Assumes nothing.
 use mathlib.Core.Path.{◌≡◌, refl}
 use mathlib.Core.Bool.{Bool, true, false, cond}
 use mathlib.Core.List.{List, ◌++◌, map}

@@ -17,8 +17,8 @@ pub record UpTo (r : Report) (n : ℕ) : Type 0 where
   pub samples : r.samples ≤ n
   pub nans : r.nans ≤ n
   pub infinities : r.infinities ≤ n
-  pub above_one_lem : r.above_one ≤ n
-  pub sign_changes_lem : r.sign_changes ≤ n
+  pub above_one : r.above_one ≤ n
+  pub sign_changes : r.sign_changes ≤ n
 
 pub up_to : (r : Report) → UpTo r (fullest r)
 unfolding fullest
@@ -27,8 +27,8 @@ up_to r =
       samples = omega arith;
       nans = omega arith;
       infinities = omega arith;
-      above_one_lem = omega arith;
-      sign_changes_lem = omega arith;
+      above_one = omega arith;
+      sign_changes = omega arith;
     }
 
 pub fullest_up_to : (r : Report) (n : ℕ) → UpTo r n → fullest r ≤ n
@@ -53,8 +53,8 @@ fullest-one r x =
       samples = omega arith;
       nans = omega (arith, count_most is_nan x);
       infinities = omega (arith, count_most is_infinite x);
-      above_one_lem = omega (arith, count_most is_above_one x);
-      sign_changes_lem = omega (arith, f.0, s.0, one_more (is_opposite r.last (sign_of x)));
+      above_one = omega (arith, count_most is_above_one x);
+      sign_changes = omega (arith, f.0, s.0, one_more (is_opposite r.last (sign_of x)));
     })
 
 pub fullest-after : (r : Report) (xs : List ℕ) → fullest (after r xs) ≤ fullest r + length xs

@@ -62,7 +62,7 @@ after r xs =
       last = last_of (met r.last xs);
     }
 
--- Of a report that samples made, `samples` is the greatest count (proofs/Room `room-is-samples`): 30 is then "more than 4,294,967,295
+-- Of a report that samples made, `samples` is the greatest count (proofs/Room `room_is_samples`): 30 is then "more than 4,294,967,295
 -- samples", and a report that no samples made has an answer too.
 abbrev pub most : ℕ
 most = 4294967295

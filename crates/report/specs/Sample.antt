@@ -13,7 +13,7 @@ infinity = 0x7ff0_0000_0000_0000
 abbrev pub one : ℕ
 one = 0x3ff0_0000_0000_0000
 
--- The bits without the sign: of two samples the one of greater magnitude has the greater (proofs/Magnitudes `by-magnitude`), and NaNs stand above
+-- The bits without the sign: of two samples the one of greater magnitude has the greater (proofs/Magnitudes `by_magnitude`), and NaNs stand above
 -- infinity. proofs/ByNumbers says of each test below that it is the test of the number.
 abbrev pub magnitude : ℕ → ℕ
 magnitude bits = bits % sign_bit
