@@ -1,24 +1,27 @@
 -- What becomes of a place, and of the bytes that the output's buffer holds, where words are written. What standard output does with the bytes
 -- that it is sent no definition can say: `taken` is whether it took them. Assumes nothing.
 use Rattle.std.specs.Prelude.{◌≡◌, ◌⊎◌, Bool, true, false, not, ◌||◌, cond, List, [], ◌∷◌, map, ℕ, ◌+◌, ◌-◌, ◌<◌, ◌≤◌, ltb, Float, length, take}
+use Rattle.std.specs.declared.io.Stdin.{Stdin}
+use Rattle.std.specs.declared.io.Stdout.{Stdout}
 use Rattle.words.specs.Number.{to_word}
 use Rattle.words.specs.Writer.{put_of, if_stored}
 use Rattle.stream.specs.declared.place.Place.{Place}
 
 -- nothing is read, nothing is to be sent, and nothing is over
-abbrev pub started : Place
-started = record { unread = record { at = 0; end = 0 }; filled = 0; over = false; is_refused = false }
+abbrev pub started : Stdin → Stdout → Place
+started stdin stdout =
+    record { unread = record { at = 0; end = 0 }; filled = 0; over = false; is_refused = false; stdin = stdin; stdout = stdout }
 
 -- all is over, and a last word is to say that it ended amiss
 abbrev pub refused_at : Place → Place
-refused_at p = record { unread = p.unread; filled = p.filled; over = true; is_refused = true }
+refused_at p = record { unread = p.unread; filled = p.filled; over = true; is_refused = true; stdin = p.stdin; stdout = p.stdout }
 
 abbrev pub refused_if : Bool → Place → Place
 refused_if wrong p = cond wrong (refused_at p) p
 
 -- so many bytes of the output's buffer are to be sent
 abbrev pub filled_to : ℕ → Place → Place
-filled_to n p = record { unread = p.unread; filled = n; over = p.over; is_refused = p.is_refused }
+filled_to n p = record { unread = p.unread; filled = n; over = p.over; is_refused = p.is_refused; stdin = p.stdin; stdout = p.stdout }
 
 -- What was gathered is sent, out of a buffer of `size` bytes. Refused where it holds fewer than were gathered, or where they were not taken.
 unfoldable pub sent : Bool → ℕ → Place → Place

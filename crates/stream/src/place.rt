@@ -5,7 +5,7 @@ ghost use Rattle.std.specs.Prelude.{◌≡◌, [], ◌∷◌, map, ◌-◌, ◌�
 ghost use Rattle.words.specs.Number.{to_word};
 ghost use Rattle.stream.specs.Place.{started, refused_at, refused_if, sent, cleared_by, gathered, flag_word, Told, Writes, WritesFirst};
 
-use libc::{STDIN_FILENO, STDOUT_FILENO};
+use std::io::{Read, Stdin, Stdout};
 use words::reader::{Cursor, Taken};
 use words::writer::{Stored, pour};
 
@@ -13,13 +13,15 @@ use words::writer::{Stored, pour};
 pub type Buffer = [u8; 65536];
 
 // What is unread of the input's buffer, how many bytes of the output's are to be sent, and whether all is over: the input has ended, a
-// write failed, or a case is refused.
+// write failed, or a case is refused. With it go the streams themselves, which are nothing but the leave to read and to write.
 #[derive(Clone, Copy)]
 pub struct Place {
     pub unread: Cursor,
     pub filled: usize,
     pub over: bool,
     pub is_refused: bool,
+    pub stdin: Stdin,
+    pub stdout: Stdout,
 }
 
 // A word of the input and the place after it. Where all is over, the word is 0.
@@ -47,14 +49,16 @@ pub struct Few {
 
 impl Place {
     // Nothing is read yet, and nothing is to be sent.
-    pub fn start() -> Place
-        ensures { result ≡ started }
+    pub fn start(stdin: Stdin, stdout: Stdout) -> Place
+        ensures { result ≡ started stdin stdout }
     {
         Place {
             unread: Cursor { at: 0, end: 0 },
             filled: 0,
             over: false,
             is_refused: false,
+            stdin,
+            stdout,
         }
     }
 
@@ -195,7 +199,7 @@ impl Place {
         if self.over {
             return self;
         }
-        let refilled = refill(unread, input, want);
+        let refilled = refill(unread, self.stdin, input, want);
         self.unread = refilled;
         self
     }
@@ -292,7 +296,8 @@ impl Place {
         if output.len() < filled {
             return self.refused();
         }
-        if io::write_all(STDOUT_FILENO, &output[0..filled]) {
+        let stdout = self.stdout;
+        if stdout.write_all(&output[0..filled]).is_ok() {
             return self;
         }
         self.refused()
@@ -300,11 +305,11 @@ impl Place {
 }
 
 // What is unread moves to the front, and more is read behind it, until `want` bytes are there or the input ends.
-fn refill(unread: Cursor, input: &mut [u8], want: usize) -> Cursor {
+fn refill(unread: Cursor, stdin: Stdin, input: &mut [u8], want: usize) -> Cursor {
     let front = unread.front(input);
     let mut end = front.end;
     while end < want {
-        let more = read_behind(input, end);
+        let more = read_behind(stdin, input, end);
         if more == 0 {
             break;
         }
@@ -313,14 +318,16 @@ fn refill(unread: Cursor, input: &mut [u8], want: usize) -> Cursor {
     Cursor { at: 0, end }
 }
 
-// Reads once, into the buffer from index `end` on, and answers how many bytes came.
-fn read_behind(input: &mut [u8], end: usize) -> usize
+// Reads once, into the buffer from index `end` on, and answers how many bytes came: none at the input's end, nor where the read fails.
+fn read_behind(mut stdin: Stdin, input: &mut [u8], end: usize) -> usize
     ensures { result ≤ length input.new - end }
 {
     if input.len() < end {
         return 0;
     }
     let behind = &mut input[end..];
-    let got = libc::read(STDIN_FILENO, behind);
-    io::count(got, behind)
+    match stdin.read(behind) {
+        Ok(count) => count,
+        Err(_) => 0,
+    }
 }
