@@ -51,6 +51,7 @@ pub(crate) struct Delayed {
 }
 
 // Whether a single operation on a ring is not refused.
+#[tactic(auto, unfolding(crate::specs::DelayLine::in_ring))]
 pub(crate) fn in_ring(position: usize, slots: usize) -> bool
     ensures { result ≡ in_ring position slots }
 {
