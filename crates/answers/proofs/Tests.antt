@@ -1,19 +1,18 @@
 -- Tests as facts.
---     holds, fails                      what `if !f(..) { return .. }` tells of what f ensures, on the way past it and on the way out
+--     holds, fails                      what a test of f's answer tells of what f ensures, where it holds and where it fails
 --     and_left, and_right               what it tells that two tests passed
 --     or_cases, or_other                what it tells that one of two passed
 --     or_false_left, or_false_right     what it tells that neither did
 -- Assumes nothing.
 use mathlib.Core.Path.{◌≡◌, refl, sym, ◌∙◌}
 use mathlib.Core.Logic.{◌⊎◌, inl, inr}
-use mathlib.Core.Bool.{Bool, true, false, true≢false, not, ◌&&◌, ◌||◌, and-eq-true_iff}
-use borrow.Author.Tests.{not-true, not-false}
+use mathlib.Core.Bool.{Bool, true, false, true≢false, ◌&&◌, ◌||◌, and-eq-true_iff}
 
-pub holds : {r s : Bool} → r ≡ s → not r ≡ false → s ≡ true
-holds e h = sym e ∙ not-false _ h
+pub holds : {r s : Bool} → r ≡ s → r ≡ true → s ≡ true
+holds e h = sym e ∙ h
 
-pub fails : {r s : Bool} → r ≡ s → not r ≡ true → s ≡ false
-fails e h = sym e ∙ not-true _ h
+pub fails : {r s : Bool} → r ≡ s → r ≡ false → s ≡ false
+fails e h = sym e ∙ h
 
 pub and_left : (a b : Bool) → (a && b) ≡ true → a ≡ true
 and_left a b h = ((and-eq-true_iff a b).0 h).0

@@ -17,11 +17,11 @@ use native.Mathlib.Omega.{arith}
 use lib.Dec.{leb, eqb}
 use lib.ListN.{length, get_or, take, drop}
 use lib.Ieee.{Float, nan}
-use borrow.Author.Tests.{leb-true, ltb-true, eqb-true, ne_eqb}
+use borrow.Author.Tests.{leb-true, ltb-true, eqb-true, ne_eqb, not-true}
 use Rattle.numbers.specs.Constants.{zero64}
 use Rattle.numbers.specs.Zeros.{all_plus_zero}
 use Rattle.order.specs.Order.{Among}
-use Rattle.answers.proofs.Tests.{fails, and_left, and_right, or_other, or_false_left, or_false_right}
+use Rattle.answers.proofs.Tests.{and_left, and_right, or_other, or_false_left, or_false_right}
 use Rattle.magnetron.specs.Buffers.{index_of, pick, same_pool, same_buffer, Shape, capacity_at, bank_at, marks_at, line_at, line_of, with_line_at, with_line, heard, laid, write, stale_at, cleared, hits, clash}
 use Rattle.magnetron.specs.Pools.{pool_at, base_of, shape_of, banks_of, sided}
 use Rattle.magnetron.specs.Checks.{pool_ok, shape_ok, window_ok, has_buffer, all_there, no_clash}
@@ -159,7 +159,7 @@ clash-at ins (x ∷ os) m o (inr k) e = clash-at ins os m o k (or_false_right (h
 pub apart_from : (m : Marks) (n : ℕ) (ins os : List BufferIndex) (o b : BufferIndex) → Among o os → Among b ins → no_clash n ins os m ≡ true → ApartFrom m n o b
 unfolding ApartFrom
 apart_from m n ins os o b k a e pos q =
-    let free : clash ins os m ≡ false = fails refl (or_other (eqb n 0) _ e (λ z. let none : n ≡ 0 = eqb-true _ _ z in omega arith)) in
+    let free : clash ins os m ≡ false = not-true _ (or_other (eqb n 0) _ e (λ z. let none : n ≡ 0 = eqb-true _ _ z in omega arith)) in
     go (hits o ins) (stale_at o m) (hits-among o b ins a (ap (same_buffer o) (sym q) ∙ same_buffer_refl o)) (clash-at ins os m o k free)
   where
     go : (t s : Bool) → t ≡ true → (t && not s) ≡ false → s ≡ true
