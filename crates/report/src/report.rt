@@ -148,6 +148,7 @@ impl Report {
     }
 
     // One sample more, by its bits. Of zeros and NaNs no more is to be told; for the others no jump hangs on sign or loudness.
+    #[tactic(auto, using(crate::proofs::report::Sorts::one_zero, crate::proofs::report::Sorts::one_nan, crate::proofs::report::Sorts::one_other), unfolding(crate::specs::Report::fullest, crate::specs::Inside::signed_by))]
     fn with_sample(mut self, bits: u64) -> Report
         requires { fullest self < most }
         ensures { result ≡ after self (bits ∷ []) }
@@ -183,6 +184,7 @@ impl Report {
     }
 
     // The magnitude of a number or an infinity.
+    #[tactic(auto, using(crate::proofs::report::Sorts::levelled_infinite, crate::proofs::report::Sorts::levelled_finite))]
     fn with_magnitude(mut self, magnitude: u64) -> Report
         requires { (self.infinities < most) × (self.above_one < most) × (magnitude ≤ infinity) }
         ensures { result ≡ levelled_by self magnitude }

@@ -1,14 +1,14 @@
--- One sample more, by its sort: a zero, a NaN, or any other. Assumes nothing.
+-- One sample more, by its sort: a zero, a NaN, or any other; and a magnitude, by whether it is infinity's. Assumes nothing.
 use mathlib.Core.Path.{◌≡◌, refl, ◌∙◌}
 use mathlib.Core.Bool.{Bool, true, false, cond, and-true}
 use mathlib.Core.List.{[], ◌∷◌}
-use Prim.Native.Nat.{ℕ, ◌+◌, ◌<◌, ◌≤◌}
+use Prim.Native.Nat.{ℕ, ◌+◌, ◌<◌, ◌≤◌, max}
 use native.Mathlib.Nat.{add-zero, max-zero}
 use native.Mathlib.Omega.{arith}
-use borrow.Author.Tests.{ne_eqb, lt-ltb, le-ltb}
+use borrow.Author.Tests.{eq-eqb, ne_eqb, lt-ltb, le-ltb}
 use lib.Dec.{ltb}
 use Rattle.report.specs.Sample.{sign_bit, infinity, one, magnitude, is_nan, is_infinite, is_finite, is_above_one, sign_of, is_signed, is_opposite}
-use Rattle.report.specs.Report.{after}
+use Rattle.report.specs.Report.{after, one_if}
 use Rattle.report.specs.Inside.{with_one, signed_by, levelled_by}
 use Rattle.report.specs.declared.sample.Sign.{Sign}
 use Rattle.report.specs.declared.sample.Sign.TheVariants.{Neither, Positive, Negative}
@@ -66,3 +66,32 @@ module _ (r : Report) (bits : ℕ) where
       → after r (bits ∷ []) ≡ levelled_by (signed_by (counted r r.nans) (sign_of bits)) (magnitude bits)
   unfolding with_one is_nan is_infinite is_finite is_above_one signed_by levelled_by
   one_other h l = after_one r bits ∙ simp (le-ltb infinity (magnitude bits) l, signed bits h l, add-zero, and-true)
+
+-- what a magnitude makes of a report: infinity counts, and any other may be the largest
+pub levelled_infinite : (r : Report) (m : ℕ) → m ≡ infinity
+    → levelled_by r m
+    ≡ record {
+      samples = r.samples;
+      nans = r.nans;
+      infinities = r.infinities + 1;
+      above_one = r.above_one + one_if (ltb one m);
+      sign_changes = r.sign_changes;
+      largest = r.largest;
+      last = r.last;
+    }
+unfolding levelled_by
+levelled_infinite r m h = simp (eq-eqb m infinity h, le-ltb m infinity (omega arith), max-zero)
+
+pub levelled_finite : (r : Report) (m : ℕ) → m < infinity
+    → levelled_by r m
+    ≡ record {
+      samples = r.samples;
+      nans = r.nans;
+      infinities = r.infinities;
+      above_one = r.above_one + one_if (ltb one m);
+      sign_changes = r.sign_changes;
+      largest = max r.largest m;
+      last = r.last;
+    }
+unfolding levelled_by
+levelled_finite r m h = simp (ne_eqb m infinity (λ e. omega arith), lt-ltb m infinity h, add-zero)
