@@ -7,17 +7,17 @@
 --     Summed, summed_start, summed_more, rings_fit     loops that add up the rings' lengths
 --     part_put                 a part that was lent comes back in its place
 -- Assumes nothing.
-use Rattle.std.proofs.Common.{◌≡◌, ℕ, zero, suc, ◌+◌, ◌-◌, ◌*◌, ◌<◌, ◌≤◌, Bool, true, false, ◌&&◌, leb, List, [], ◌∷◌, ◌++◌, length, get_or, take, drop, sym, refl, ap, ◌∙◌, ap₂, ⊎_elim, append_assoc, le_of_suc-le-suc, le_antisymm, eq-or-lt_of_le, add-one, arith, leb-true}
+use Rattle.std.proofs.Common.{◌≡◌, ◌≢◌, ℕ, zero, suc, ◌+◌, ◌-◌, ◌*◌, ◌<◌, ◌≤◌, Bool, true, false, ◌&&◌, leb, List, ◌++◌, length, get_or, take, drop, sym, refl, ap, ◌∙◌, ap₂, ⊎_elim, append_assoc, le_of_suc-le-suc, le_antisymm, eq-or-lt_of_le, add-one, arith, leb-true}
 use mathlib.Core.Bool.{and-false}
 use lib.ListN.{get_or-append}
 use lib.Seq.{sets, sets-eq}
 use lib.Ieee.{Float}
 use borrow.Rule.Slice.PartMut.{put_mid, Post-is}
-use types.Run.{OneOf, miss}
-use denote.Enum.Declared.{tag_of}
 use Rattle.answers.proofs.Tests.{and_left, and_right}
 use Rattle.magnetron.specs.Signals.{tab, window}
 use Rattle.magnetron.proofs.Windows.{tab-length, tab-at}
+use Rattle.magnetron.specs.declared.buffer.BufferIndex.{BufferIndex}
+use Rattle.microwave.specs.declared.waveguide.WaveguideSpec.{WaveguideSpec}
 use Rattle.stages.specs.declared.kind.Kind.{Kind}
 use Rattle.stages.specs.declared.kind.Kind.TheVariants.{Pass, Pow3, Clip, Filter, Oscillator, ModOscillator, Waveguide, RingModulator, Pan}
 use Rattle.stages.specs.declared.patch.Patch.{Patch}
@@ -25,20 +25,15 @@ use Rattle.stages.specs.declared.state.State.{State}
 use Rattle.stages.specs.Stage.{ring_len, ring_fine}
 use Rattle.stages.specs.Rings.{no_state, stage_in, len_in, ring_at, fine_in, sum_to, all_to, rings_ok}
 use Rattle.stages.specs.Inside.{starts_of}
-use Rattle.stages.specs.contracts.kind.Kind.{the_type}
 
--- the tags of all kinds but Waveguide
-abbrev others : List ℕ
-others = 0 ∷ 1 ∷ 2 ∷ 3 ∷ 4 ∷ 5 ∷ 7 ∷ 8 ∷ []
-
-pub no_ring : (kind : Kind) (s : State) → OneOf others (tag_of the_type kind) → (0 ≡ ring_len kind) × (true ≡ ring_fine kind s)
+pub no_ring : (kind : Kind) (s : State) → ((a : BufferIndex) (g : WaveguideSpec) → kind ≢ Waveguide a g) → (0 ≡ ring_len kind) × (true ≡ ring_fine kind s)
 no_ring (Pass a) s h = (refl, refl)
 no_ring (Pow3 a) s h = (refl, refl)
 no_ring (Clip a limit) s h = (refl, refl)
 no_ring (Filter a f) s h = (refl, refl)
 no_ring (Oscillator o) s h = (refl, refl)
 no_ring (ModOscillator a o m) s h = (refl, refl)
-no_ring (Waveguide a g) s h = absurd (miss others 6 tt h)
+no_ring (Waveguide a g) s h = absurd (h a g refl)
 no_ring (RingModulator a b) s h = (refl, refl)
 no_ring (Pan a gain right) s h = (refl, refl)
 
