@@ -1,6 +1,5 @@
 use mathlib.Core.Path.{refl, ◌∙◌}
 use Prim.Native.Nat.{◌+◌}
-use native.Mathlib.Nat.{le_antisymm}
 use native.Mathlib.Omega.{arith}
 use lib.ListN.{length-set}
 use lib.Ieee.{nan}
@@ -17,9 +16,3 @@ loop-k-preserved c =
       length-set c.loop-k.own _ _ ∙ c.loop-k.invariant.1,
       window-next c.args.own.now c.args.at _ c.loop-k.k c.loop-k.own _ (omega arith) c.loop-k.invariant.2 (c.store_or_add.ensures ∙ rw old),
     )
-
-pub shape_of-own : goal.shape_of-own
-shape_of-own c = c.loop-k.invariant.1
-
-pub returns : goal.returns
-returns c = rw (le_antisymm c.loop-k.invariant.0 (omega arith)) at c.loop-k.invariant.2

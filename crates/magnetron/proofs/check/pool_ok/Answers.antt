@@ -1,10 +1,7 @@
 -- `magnetron::check::pool_ok` meets its contract: each return rewrites with the tests that led there.
 -- Assumes nothing.
-use native.Mathlib.Nat.{lt_of_le_of_lt}
-use lib.Dec.{lit<}
 use borrow.Author.Tests.{le-leb, lt-leb}
 use Rattle.magnetron.specs.Checks.{pool_ok}
-use Rattle.magnetron.proofs.Parts.{product_le}
 use Rattle.magnetron.proofs.check.pool_ok.Goals as goal
 
 pub returns-then-count-gt16 : goal.returns-then-count-gt16
@@ -14,9 +11,6 @@ returns-then-count-gt16 c = simp (lt-leb _ _ c.if-count-gt16.true)
 pub returns-then-capacity-gt4096 : goal.returns-then-capacity-gt4096
 unfolding pool_ok
 returns-then-capacity-gt4096 c = simp (le-leb _ _ c.if-count-gt16.false, lt-leb _ _ c.if-capacity-gt4096.true)
-
-pub overflow_mul-result : goal.overflow_mul-result
-overflow_mul-result c = record { fits = lt_of_le_of_lt (product_le c.if-count-gt16.false c.if-capacity-gt4096.false) (lit< tt) }
 
 pub returns : goal.returns
 unfolding pool_ok

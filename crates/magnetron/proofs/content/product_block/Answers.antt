@@ -1,7 +1,7 @@
 use mathlib.Core.Path.{refl}
 use native.Mathlib.Omega.{arith}
 use borrow.Author.Rules.{rules}
-use Rattle.magnetron.proofs.Blocks.{filled_start, filled_more, filled_end}
+use Rattle.magnetron.proofs.Blocks.{filled_start, filled_more}
 use Rattle.magnetron.proofs.content.product_block.Goals as goal
 
 pub loop-k-init : goal.loop-k-init
@@ -9,6 +9,3 @@ loop-k-init c = filled_start (search rules)
 
 pub loop-k-preserved : goal.loop-k-preserved
 loop-k-preserved c = filled_more c.loop-k.invariant (omega arith) refl
-
-pub returns : goal.returns
-returns c = filled_end c.loop-k.invariant (omega arith)

@@ -5,22 +5,6 @@ use lib.Ieee.{nan, binary64, mul}
 use Rattle.magnetron.proofs.Windows.{tab-at, tab_ext}
 use Rattle.magnetron.proofs.content.sample_block.Goals as goal
 
-pub fetch_block-requires : goal.fetch_block-requires
-fetch_block-requires c = rw c.in-Copy.is at c.requires
-
-pub fetch_block-x-requires : goal.fetch_block-x-requires
-fetch_block-x-requires c =
-    let pre = c.requires in
-    (pre.0, (rw c.in-Product.is at pre.1).0)
-
-pub fetch_block-y-requires : goal.fetch_block-y-requires
-fetch_block-y-requires c =
-    let pre = c.requires in
-    (pre.0, (rw c.in-Product.is at pre.1).1)
-
-pub returns-in-Copy : goal.returns-in-Copy
-returns-in-Copy c = rw (c.in-Copy.is, c.fetch_block.ensures)
-
 pub returns-in-Product : goal.returns-in-Product
 returns-in-Product c =
     rw c.in-Product.is

@@ -1,2 +1,0 @@
--- Laws that the proofs of `magnetron::outputs` alone cite.
-mod Pairs
