@@ -15,7 +15,7 @@
 --     "Activity is that of the output's kind; a run's is the greatest, Exhausted if empty." louder, ended
 -- And 02's, Five:
 --     "The run's result holds, for each stage number, the answer of its last sample, and "within" for .. unordered stages, .. and refusals."    reaches, ended, after_by
-use Rattle.std.specs.Prelude.{Bool, true, false, not, ◌&&◌, ◌||◌, cond, ℕ, ◌+◌, eqb, leb, ltb, length, get_or, set, take, drop, Float}
+use Rattle.std.specs.Prelude.{Bool, true, false, not, ◌&&◌, ◌||◌, cond, ℕ, eqb, leb, ltb, length, get_or, set, take, drop, Float}
 use mathlib.Core.List.{List, [], ◌∷◌, ◌++◌, map, zip_with}
 use Rattle.std.proofs.Math.Option.{Option, none, some}
 use Rattle.std.proofs.lemmas.List.Edits.{sets}

@@ -62,6 +62,7 @@ use Rattle.engine.proofs.Faults.{Sound, sound}
 use Rattle.engine.proofs.Along.{held-sided, held_whole}
 
 among-append : {A : Type 0} (a : A) (xs ys : List A) → Among a xs → Among a (xs ++ ys)
+among-append a [] ys m = elim m [ ]
 among-append a (x ∷ xs) ys (inl e) = inl e
 among-append a (x ∷ xs) ys (inr m) = inr (among-append a xs ys m)
 
