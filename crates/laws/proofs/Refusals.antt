@@ -95,6 +95,7 @@ module _ (g : Given) (order : List ℕ) where
       go none none h k = inl (refl, refl)
       go none (some v) h k = inr (inr k)
       go (some v) along (low, high, inl e) k = inr (inl (low, high, e))
+      go (some v) along (low, high, inr e) k = elim e [ ]
 
   -- ".. and Exhausted; every record and lent slice is unchanged."; 02: "'within' for .. refusals"
   abbrev Unchanged : After → Type 0
