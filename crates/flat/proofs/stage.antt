@@ -1,3 +1,2 @@
 -- Laws that the proofs of `flat::stage` alone cite.
 mod Filters
-mod Past

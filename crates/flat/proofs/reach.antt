@@ -1,0 +1,2 @@
+-- Laws that the proofs of `flat::reach` alone cite.
+mod Told
