@@ -1,11 +1,11 @@
 // The level report of what standard input gives, as raw f64, low byte first: six figures, one to a line. Rests on `report` for the figures and on
-// the kit's `io` and `libc` for the streams. docs/LEVELS.md is its page.
+// `std::io` for the streams. docs/LEVELS.md is its page.
 #![tactic(auto)]
 
 ghost use Rattle.std.specs.Prelude.{◌-◌, ◌<◌, ◌≤◌, length};
 
-use libc::{STDERR_FILENO, STDIN_FILENO, STDOUT_FILENO};
 use report::report::{Added, Report, add_bytes, new_report};
+use std::io::{Read, Stdin, Stdout};
 
 // How many bytes came, and whether a read failed.
 #[derive(Clone, Copy)]
@@ -22,7 +22,7 @@ enum Input {
 }
 
 // Reads once, into the bytes from an index on.
-fn read_behind(bytes: &mut [u8], from: usize) -> Got
+fn read_behind(mut stdin: Stdin, bytes: &mut [u8], from: usize) -> Got
     ensures { result.count ≤ length bytes.new - from }
 {
     if bytes.len() < from {
@@ -32,20 +32,25 @@ fn read_behind(bytes: &mut [u8], from: usize) -> Got
         };
     }
     let behind = &mut bytes[from..];
-    let got = libc::read(STDIN_FILENO, behind);
-    Got {
-        count: io::count(got, behind),
-        failed: got < 0,
+    match stdin.read(behind) {
+        Ok(count) => Got {
+            count,
+            failed: false,
+        },
+        Err(_) => Got {
+            count: 0,
+            failed: true,
+        },
     }
 }
 
 // Reads until the bytes are full, the input ends or a read fails.
-fn fill(bytes: &mut [u8]) -> Got
+fn fill(stdin: Stdin, bytes: &mut [u8]) -> Got
     ensures { result.count ≤ length bytes.new }
 {
     let mut count = 0;
     while count < bytes.len() {
-        let got = read_behind(bytes, count);
+        let got = read_behind(stdin, bytes, count);
         if got.count == 0 {
             return Got {
                 count,
@@ -61,12 +66,12 @@ fn fill(bytes: &mut [u8]) -> Got
 }
 
 // The report of the whole input, or the first refusal. Each time the bytes are filled before they are added, so that no read cuts a sample.
-fn read_input(bytes: &mut [u8]) -> Input
+fn read_input(stdin: Stdin, bytes: &mut [u8]) -> Input
     requires { 0 < length bytes.old }
 {
     let mut report = new_report();
     loop {
-        let got = fill(bytes);
+        let got = fill(stdin, bytes);
         if got.failed {
             return Input::Unread;
         }
@@ -82,32 +87,33 @@ fn read_input(bytes: &mut [u8]) -> Input
     }
 }
 
-fn write_line(n: u64) {
-    io::print_decimal(STDOUT_FILENO, n);
-    io::write_all(STDOUT_FILENO, b"\n");
+// Where a line cannot be written, there is nobody to tell.
+fn write_line(stdout: Stdout, n: u64) {
+    let _ = println!(stdout; "{n}");
 }
 
 // The figures in document 02's order, the last as its bits.
-fn write_report(report: Report) {
-    write_line(report.samples);
-    write_line(report.nans);
-    write_line(report.infinities);
-    write_line(report.above_one);
-    write_line(report.sign_changes);
-    io::print_hex(STDOUT_FILENO, report.largest, 16);
-    io::write_all(STDOUT_FILENO, b"\n");
+fn write_report(stdout: Stdout, report: Report) {
+    write_line(stdout, report.samples);
+    write_line(stdout, report.nans);
+    write_line(stdout, report.infinities);
+    write_line(stdout, report.above_one);
+    write_line(stdout, report.sign_changes);
+    let largest = report.largest;
+    let _ = println!(stdout; "{largest:016x}");
 }
 
-fn main() {
-    let mut bytes = io::large_buffer();
-    let input = read_input(&mut bytes);
+fn main(rt: HostRuntime) {
+    let stdout = rt.stdout();
+    let mut bytes = [0u8; 65536];
+    let input = read_input(rt.stdin(), &mut bytes);
     let Input::Whole(added) = input else {
-        io::write_all(STDERR_FILENO, b"levels: standard input cannot be read\n");
+        let _ = eprintln!(rt; "levels: standard input cannot be read");
         return;
     };
     if added.number != 0 {
-        write_line(added.number as u64);
+        write_line(stdout, added.number as u64);
         return;
     }
-    write_report(added.report);
+    write_report(stdout, added.report);
 }
