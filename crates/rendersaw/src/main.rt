@@ -1,5 +1,5 @@
 // Renders one window of a sawtooth and writes its samples in hex: frequency 1, eight samples of an eighth of a second, into internal buffer 0.
-// Rests on `magnetron` for the pools and on `engine` for the run; what it writes is compared with document 01's listing.
+// Rests on `magnetron` for the pools, on `engine` for the run and on `std::io` for printing; what it writes is compared with document 01's listing.
 #![tactic(auto)]
 
 use engine::run::run;
@@ -12,6 +12,7 @@ use stages::kind::Kind;
 use stages::patch::Patch;
 use stages::stage::Stage;
 use stages::state::new_states;
+use std::io::Stdout;
 
 // A sawtooth of one turn a second into internal buffer 0.
 fn sawtooth() -> Stage {
@@ -29,20 +30,20 @@ fn sawtooth() -> Stage {
 }
 
 // A sample's 16 hex digits on a line. A NaN has no bits of its own: it is written as the usual quiet one.
-fn write_sample(x: f64) {
+fn write_sample(stdout: Stdout, x: f64) {
     if x != x {
-        io::write_all(1, b"7ff8000000000000\n");
+        let _ = println!(stdout; "7ff8000000000000");
         return;
     }
-    io::print_hex(1, f64::to_bits(x), 16);
-    io::write_all(1, b"\n");
+    let bits = f64::to_bits(x);
+    let _ = println!(stdout; "{bits:016x}");
 }
 
 // Each sample on a line.
-fn write_samples(samples: &[f64]) {
+fn write_samples(stdout: Stdout, samples: &[f64]) {
     let mut i = 0;
     while i < samples.len() {
-        write_sample(samples[i]);
+        write_sample(stdout, samples[i]);
         i += 1;
     }
 }
@@ -76,13 +77,14 @@ fn render(internal: &mut [f64], none: &mut [f64], zeros: &[f64]) -> bool {
 }
 
 // The lent samples do not begin as zeros: the new pool is to make them so.
-fn main() {
+fn main(rt: HostRuntime) {
+    let stdout = rt.stdout();
     let mut internal = [1.0; 8];
     let mut none = [0.0; 1];
     let zeros = [0.0; 8];
     if !render(&mut internal, &mut none[0..0], &zeros) {
         return;
     }
-    io::write_all(1, b"internal 0 window 8\n");
-    write_samples(&internal);
+    let _ = println!(stdout; "internal 0 window 8");
+    write_samples(stdout, &internal);
 }
