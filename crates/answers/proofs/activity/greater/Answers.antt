@@ -2,7 +2,6 @@
 -- Assumes nothing.
 use native.Mathlib.Omega.{arith}
 use borrow.Author.Tests.{ltb-true, ltb-false}
-use borrow.Author.Rules.{rules}
 use Rattle.answers.proofs.Greatest.{greater_right, greater_left}
 use Rattle.answers.proofs.activity.greater.Goals as goal
 

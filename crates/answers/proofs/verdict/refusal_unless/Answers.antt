@@ -1,6 +1,5 @@
 -- `answers::verdict::refusal_unless` meets its contract: each return rewrites with the test that led there.
 -- Assumes nothing.
-use borrow.Author.Rules.{rules}
 use Rattle.answers.proofs.verdict.refusal_unless.Goals as goal
 
 pub returns-then-passed : goal.returns-then-passed

@@ -1,9 +1,5 @@
-use Prim.Native.Nat.{◌-◌}
 use native.Mathlib.Omega.{arith}
-use lib.ListN.{length}
-use borrow.Author.Rules.{rules}
-use Rattle.numbers.specs.Constants.{zero64}
-use Rattle.answers.proofs.Filling.{Filling, filling_start, filling_more, filling_all}
+use Rattle.answers.proofs.Filling.{filling_start, filling_more, filling_all}
 use Rattle.answers.proofs.zeros.fill_with_zeros.Goals as goal
 
 pub loop-i-init : goal.loop-i-init

@@ -1,11 +1,9 @@
 -- `answers::zeros::fill_with_zeros` meets its contract: the loop's invariant is `Filling` with zeros; its measure is the length less i.
 -- Assumes nothing.
 use Prim.Native.Nat.{◌-◌}
-use native.Mathlib.Omega.{arith}
 use lib.ListN.{length}
-use borrow.Author.Rules.{rules}
 use Rattle.numbers.specs.Constants.{zero64}
-use Rattle.answers.proofs.Filling.{Filling, filling_start, filling_more, filling_all}
+use Rattle.answers.proofs.Filling.{Filling}
 use Rattle.answers.proofs.zeros.fill_with_zeros.Given as goal
 
 abbrev pub invariant-loop-i : goal.invariant-loop-i

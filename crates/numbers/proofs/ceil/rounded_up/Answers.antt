@@ -1,6 +1,5 @@
 -- `numbers::ceil::rounded_up` meets its contract. The two calls' contracts, put together by congruence.
 -- Assumes nothing.
-use Rattle.std.proofs.Common.{rules}
 use Rattle.numbers.specs.Ceil.{gap_of}
 use Rattle.numbers.proofs.ceil.rounded_up.Goals as goal
 

@@ -1,6 +1,5 @@
 -- `numbers::small::copysign` meets its contract. By the sign that `is_negative` gives of y.
 -- Assumes nothing.
-use Rattle.std.proofs.Common.{rules}
 use Rattle.numbers.specs.Small.{copysign_of}
 use Rattle.numbers.proofs.small.copysign.Goals as goal
 

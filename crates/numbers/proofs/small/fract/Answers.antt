@@ -1,6 +1,6 @@
 -- `numbers::small::fract` meets its contract: from 0 to below 2 the whole part is 0 or 1, and elsewhere `whole_part` has it.
 -- Assumes nothing.
-use Rattle.std.proofs.Common.{sym, ◌∙◌, rules}
+use Rattle.std.proofs.Common.{sym, ◌∙◌}
 use Rattle.numbers.proofs.small.Fraction.{fract_first, fract_second}
 use Rattle.numbers.proofs.small.fract.Goals as goal
 

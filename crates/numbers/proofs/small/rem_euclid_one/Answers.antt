@@ -1,6 +1,6 @@
 -- `numbers::small::rem_euclid_one` meets its contract: from 0 to below 1 the remainder is x, and elsewhere `wrapped` has it.
 -- Assumes nothing.
-use Rattle.std.proofs.Common.{sym, ◌∙◌, rules}
+use Rattle.std.proofs.Common.{sym, ◌∙◌}
 use denote.Floats.{passes}
 use Rattle.numbers.proofs.small.Remainder.{rem_below}
 use Rattle.numbers.proofs.small.rem_euclid_one.Goals as goal

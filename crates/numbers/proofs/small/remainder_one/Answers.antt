@@ -1,6 +1,5 @@
 -- `numbers::small::remainder_one` meets its contract: x minus its whole part, with x's sign, is the remainder.
 -- Assumes nothing.
-use Rattle.std.proofs.Common.{rules}
 use denote.Floats.{passes}
 use Rattle.numbers.proofs.small.Remainder.{rem_fract}
 use Rattle.numbers.proofs.small.remainder_one.Goals as goal

@@ -1,6 +1,5 @@
 -- `numbers::small::whole_part` meets its contract. Up to 2 ^ 53 the cast loses nothing but the fraction, and from there on there is none.
 -- Assumes nothing.
-use Rattle.std.proofs.Common.{rules}
 use denote.Floats.{passes}
 use Rattle.numbers.proofs.Range.{cast_low, cast_high}
 use Rattle.numbers.proofs.WholePart.{magnitude_within, small_whole, large_whole}

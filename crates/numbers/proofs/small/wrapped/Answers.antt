@@ -1,6 +1,5 @@
 -- `numbers::small::wrapped` meets its contract. The test of the code is that of the definition.
 -- Assumes nothing.
-use Rattle.std.proofs.Common.{rules}
 use Rattle.numbers.specs.Small.{rem_euclid_of}
 use Rattle.numbers.proofs.small.wrapped.Goals as goal
 

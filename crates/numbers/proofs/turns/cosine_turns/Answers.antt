@@ -1,6 +1,6 @@
 -- `numbers::turns::cosine_turns` meets its contract. The tests of the code are those of the definition. Two ways lead to the NaN, and meet there.
 -- Assumes nothing.
-use Rattle.std.proofs.Common.{◌≡◌, refl, ⊎_elim}
+use Rattle.std.proofs.Common.{◌≡◌, refl}
 use lib.Ieee.{nan, binary64, of_bits, div}
 use Rattle.numbers.specs.Constants.{zero64}
 use Rattle.numbers.specs.Turns.{cosine_of}

@@ -1,5 +1,4 @@
-use Rattle.std.proofs.Common.{◌≡◌, suc, ◌-◌, ◌<◌, length, drop, arith}
-use Rattle.numbers.specs.Turns.{horner_of}
+use Rattle.std.proofs.Common.{◌≡◌, suc, ◌-◌, length, arith}
 use Rattle.numbers.proofs.turns.Sums.{horner_empty, horner_last, horner_step}
 use Rattle.numbers.proofs.turns.horner.Goals as goal
 

@@ -1,8 +1,7 @@
 -- `numbers::turns::horner` meets its contract. The invariant: the sum is that of the coefficients from i on.
 -- Assumes nothing.
-use Rattle.std.proofs.Common.{◌≡◌, suc, ◌-◌, ◌<◌, length, drop, arith}
+use Rattle.std.proofs.Common.{◌≡◌, ◌<◌, length, drop}
 use Rattle.numbers.specs.Turns.{horner_of}
-use Rattle.numbers.proofs.turns.Sums.{horner_empty, horner_last, horner_step}
 use Rattle.numbers.proofs.turns.horner.Given as goal
 
 abbrev pub invariant-loop-i : goal.invariant-loop-i

@@ -1,6 +1,5 @@
 -- `numbers::turns::sine_sum` meets its contract. The array of the code is the definition's list: each coefficient is computed, 1 over n factorial rounded once, and compared to the last bit.
 -- Assumes nothing.
-use Rattle.std.proofs.Common.{refl}
 use lib.Ieee.{of_bits, round}
 use Rattle.numbers.specs.Turns.{coefficients, sine_coefficients, sine_sum}
 use Rattle.numbers.proofs.turns.sine_sum.Goals as goal

@@ -1,5 +1,4 @@
-use Rattle.std.proofs.Common.{◌≡◌, ◌-◌, ◌≤◌, length, drop, sym, refl, ap, ◌∙◌, arith, drop_of_length-le, rules}
-use borrow.Author.Tests.{not-true, not-false}
+use Rattle.std.proofs.Common.{◌≡◌, ◌≤◌, length, sym, refl, ap, ◌∙◌, arith, drop_of_length-le, rules}
 use Rattle.numbers.specs.Inside.{all_minus_zero}
 use Rattle.numbers.proofs.zeros.Scan.{difference_next}
 use Rattle.numbers.proofs.zeros.all_minus_zero.Goals as goal

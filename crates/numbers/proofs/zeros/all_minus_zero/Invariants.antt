@@ -1,9 +1,7 @@
 -- `numbers::zeros::all_minus_zero` meets its contract. The invariant: the differences from k on decide for all eight.
 -- Assumes nothing.
-use Rattle.std.proofs.Common.{◌≡◌, ◌-◌, ◌≤◌, length, drop, sym, refl, ap, ◌∙◌, arith, drop_of_length-le, rules}
-use borrow.Author.Tests.{not-true, not-false}
+use Rattle.std.proofs.Common.{◌≡◌, ◌-◌, ◌≤◌, drop}
 use Rattle.numbers.specs.Inside.{all_minus_zero}
-use Rattle.numbers.proofs.zeros.Scan.{difference_next}
 use Rattle.numbers.proofs.zeros.all_minus_zero.Given as goal
 
 abbrev pub invariant-loop-k : goal.invariant-loop-k

@@ -1,4 +1,4 @@
-use Rattle.std.proofs.Common.{◌≡◌, ◌+◌, ◌-◌, ◌≤◌, ◌&&◌, length, drop, refl, ◌∙◌, arith, drop_of_length-le, rules}
+use Rattle.std.proofs.Common.{◌+◌, ◌-◌, ◌≤◌, length, refl, ◌∙◌, arith, drop_of_length-le}
 use mathlib.Core.Bool.{and-true}
 use lib.Ieee.{neg, of_bits}
 use Rattle.numbers.specs.Zeros.{is_plus_zero, all_plus_zero}

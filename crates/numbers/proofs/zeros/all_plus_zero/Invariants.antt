@@ -1,9 +1,7 @@
 -- `numbers::zeros::all_plus_zero` meets its contract. The invariant: the differences and the samples from `from` on tell of all samples. At the end no sample is left.
 -- Assumes nothing.
-use Rattle.std.proofs.Common.{◌≡◌, ◌+◌, ◌-◌, ◌≤◌, ◌&&◌, length, drop, refl, ◌∙◌, arith, drop_of_length-le, rules}
-use mathlib.Core.Bool.{and-true}
-use lib.Ieee.{neg, of_bits}
-use Rattle.numbers.specs.Zeros.{is_plus_zero, all_plus_zero}
+use Rattle.std.proofs.Common.{◌≡◌, ◌-◌, ◌≤◌, ◌&&◌, length, drop}
+use Rattle.numbers.specs.Zeros.{all_plus_zero}
 use Rattle.numbers.specs.Inside.{all_minus_zero}
 use Rattle.numbers.proofs.zeros.all_plus_zero.Given as goal
 

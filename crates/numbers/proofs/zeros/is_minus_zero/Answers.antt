@@ -1,6 +1,5 @@
 -- `numbers::zeros::is_minus_zero` meets its contract. -0.0 is the zero whose sign is minus.
 -- Assumes nothing.
-use Rattle.std.proofs.Common.{rules}
 use denote.Floats.{passes}
 use Rattle.numbers.proofs.Sign.{zero_minus}
 use Rattle.numbers.proofs.zeros.is_minus_zero.Goals as goal

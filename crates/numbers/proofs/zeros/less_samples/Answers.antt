@@ -1,6 +1,4 @@
-use Rattle.std.proofs.Common.{◌≡◌, ◌+◌, ◌-◌, ◌≤◌, ◌&&◌, length, drop, ◌∙◌, add-zero, arith, rules}
-use Rattle.numbers.specs.Zeros.{all_plus_zero}
-use Rattle.numbers.specs.Inside.{all_minus_zero}
+use Rattle.std.proofs.Common.{◌≡◌, ◌+◌, ◌∙◌, add-zero, arith, rules}
 use Rattle.numbers.proofs.zeros.Scan.{less_step}
 use Rattle.numbers.proofs.zeros.less_samples.Goals as goal
 

@@ -1,9 +1,8 @@
 -- `numbers::zeros::less_samples` meets its contract. The invariant: the differences and the samples from `from + k` on tell what they told at the start.
 -- Assumes nothing.
-use Rattle.std.proofs.Common.{◌≡◌, ◌+◌, ◌-◌, ◌≤◌, ◌&&◌, length, drop, ◌∙◌, add-zero, arith, rules}
+use Rattle.std.proofs.Common.{◌≡◌, ◌+◌, ◌-◌, ◌≤◌, ◌&&◌, length, drop}
 use Rattle.numbers.specs.Zeros.{all_plus_zero}
 use Rattle.numbers.specs.Inside.{all_minus_zero}
-use Rattle.numbers.proofs.zeros.Scan.{less_step}
 use Rattle.numbers.proofs.zeros.less_samples.Given as goal
 
 abbrev pub invariant-loop-k : goal.invariant-loop-k
