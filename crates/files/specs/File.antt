@@ -1,5 +1,5 @@
 -- A patch file, in the order in which it is read: a number, a choice, a parameter, a stage, a file. Assumes nothing.
-use Rattle.std.specs.Prelude.{ℕ, zero, suc, ◌+◌, ◌-◌, ◌*◌, ◌%◌, Bool, cond, List, [], ◌∷◌, ◌++◌, ltb, leb, eqb, length, take, drop, get_or, replicate}
+use Rattle.std.specs.Prelude.{ℕ, zero, suc, ◌+◌, ◌-◌, ◌*◌, ◌%◌, cond, List, [], ◌∷◌, ◌++◌, ltb, leb, eqb, length, take, drop, get_or, replicate}
 use Rattle.words.specs.Word.{word_of}
 use Rattle.flat.specs.Form.{kind_count, form_of}
 use Rattle.flat.specs.Patch.{no_parameter, no_flat}

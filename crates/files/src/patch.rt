@@ -72,6 +72,7 @@ fn empty() -> FlatPatch
 }
 
 // The patch, where nothing is at fault and the file of that length has nothing left.
+#[tactic(auto, unfolding(crate::specs::File::answered))]
 fn answer(read: StagesRead, length: usize) -> ReadPatch
     ensures { result ≡ answer_from read length }
 {
