@@ -13,7 +13,7 @@ use stream::place::{Buffer, Place};
 // The word that ends the answers where a case is refused.
 const REFUSED: u64 = 0xffff_ffff_ffff_ffff;
 
-fn main() {
+fn main(rt: HostRuntime) {
     let mut input = [0u8; 65536];
     let mut output = [0u8; 65536];
     let mut internal = [0.0; 65536];
@@ -22,6 +22,7 @@ fn main() {
     let mut rings = [0.0; 131072];
     let mut file = [0u8; 65536];
     answer_all(
+        Place::start(rt.stdin(), rt.stdout()),
         &mut input,
         &mut output,
         &mut internal,
@@ -35,6 +36,7 @@ fn main() {
 // Answers case after case. A proved loop has to end, and nothing says that the input does: so the turns are counted down, from a number
 // that no run uses up.
 fn answer_all(
+    start: Place,
     input: &mut Buffer,
     output: &mut Buffer,
     internal: &mut Samples,
@@ -43,7 +45,7 @@ fn answer_all(
     rings: &mut Cells,
     file: &mut Buffer,
 ) {
-    let mut place = Place::start();
+    let mut place = start;
     let mut turns = u64::MAX;
     while turns > 0 {
         turns -= 1;
