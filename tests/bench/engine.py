@@ -1,10 +1,10 @@
 """The engine as the benchmarks link it: the static library of crates/host, or the LLVM module that it is compiled from, compiled for
 this machine; and a program's module so compiled. Rests on rt and on the compiler of its kit."""
-import os, pathlib, platform, re, shutil, subprocess, sys
+import contextlib, os, pathlib, platform, re, shutil, subprocess, sys, tempfile
 
-KIT = pathlib.Path(os.environ.get('RATTLE_HOME') or pathlib.Path(shutil.which('rt') or sys.exit('rt is not on the path')).resolve().parents[1])
+KIT = pathlib.Path(shutil.which('rt') or sys.exit('rt is not on the path')).resolve().parents[1]
 MACHINE = platform.machine()
-CLANG = KIT / 'on' / MACHINE / 'toolchain/bin/clang'
+CLANG = KIT / 'toolchain/bin/clang'
 
 # Where a loop begins in a line of the cache moves the time of a short one by up to a quarter, and any change moves all loops behind it. So
 # where a module is compiled for the machine its functions and loops begin at lines, and what is compared is what they do.
@@ -35,32 +35,32 @@ def what_it_is_of(engine, rust, measured):
             ('numbers', 'levels, frequencies and all other parameters are slots of the lent values; inputs are noise, quiet (0.05) or loud (1)')]
 
 
-def listening_kit(into, level=''):
-    """The kit by links, with a compiler that keeps what it is given and how it is called, where the call has the level's option, and is
-    the kit's own otherwise."""
-    kit = into / 'kit'
-    shutil.rmtree(kit, ignore_errors=True)
-    own = kit / 'on' / MACHINE
-    (own / 'toolchain/bin').mkdir(parents=True)
-    for folder, names in ((kit, set(os.listdir(KIT)) - {'on'}), (own, {'bin', 'logic-built', 'rlib'})):
-        for name in names:
-            (folder / name).symlink_to(KIT / folder.relative_to(kit) / name)
-    (own / 'toolchain/lib').symlink_to((KIT / 'toolchain/lib'))
-    for name in os.listdir(CLANG.parent):
-        (own / 'toolchain/bin' / name).symlink_to(CLANG.parent / name)
-    clang = own / 'toolchain/bin/clang'
-    clang.unlink()
-    kept = f'cp module.bc {into}/module.bc; printf "%s\\n" "$@" >{into}/options'
-    clang.write_text(f'#!/bin/sh\ncase " $* " in *"{level} "*) {kept};; esac\nexec {CLANG} "$@"\n')
-    clang.chmod(0o755)
-    return kit
+@contextlib.contextmanager
+def listening_kit(into):
+    """The kit by links, for as long as it is wanted, with a compiler that keeps what it is given and how it is called before it does what the
+    kit's own does. rt works with the kit that its file lies in, so that it is copied. No link may lie in the repository, where rt refuses it."""
+    opened, copied = ['', 'bin', 'toolchain', 'toolchain/bin'], ['bin/rt', 'bin/rtlib.py']
+    with tempfile.TemporaryDirectory() as folder:
+        kit = pathlib.Path(folder) / 'kit'
+        for inside in opened:
+            (kit / inside).mkdir()
+            for path in (KIT / inside).iterdir():
+                name = path.relative_to(KIT).as_posix()
+                if name in copied:
+                    shutil.copy2(path, kit / name)
+                elif name not in opened and path != CLANG:
+                    (kit / name).symlink_to(path)
+        clang = kit / CLANG.relative_to(KIT)
+        clang.write_text(f'#!/bin/sh\ncp module.bc {into}/module.bc\nprintf "%s\\n" "$@" >{into}/options\nexec {CLANG} "$@"\n')
+        clang.chmod(0o755)
+        yield kit
 
 
 def for_this_machine(text):
     """A module for x86-64 as one for aarch64. There C passes a large record as a pointer to a copy of its own, where x86-64 has the
     copy on the stack; and it returns one through a pointer apart from the parameters, where x86-64 has it before them."""
     text = re.sub(r'(?m)^target (datalayout|triple) = .*\n', '', text)
-    text = text.replace(' "target-cpu"="x86-64"', '')
+    text = re.sub(' "target-cpu"="x86-64[^"]*"', '', text)
     text = re.sub(r' byval\(\[\d+ x i8\]\) align 8', '', text)
 
     def returns(function):
@@ -74,14 +74,16 @@ def module(root, into):
     """The library's LLVM module as text for this machine, and the options that rt has it compiled with. rt proves first what has
     changed, and writes the archive of that repository."""
     into.mkdir(parents=True, exist_ok=True)
-    do('rt', 'staticlib', 'host', cwd=root, env={**os.environ, 'RATTLE_HOME': str(listening_kit(into))})
+    with listening_kit(into) as kit:
+        do(kit / 'bin/rt', 'lib', cwd=root / 'crates/host')
     return caught(into)
 
 
-def tried_module(root, into, name):
-    """The same of a program, as `rt try` has it compiled at -O3. Nothing is proved by that: the program is held to its file 'stdout'."""
+def program_module(root, into, name):
+    """The same of a program. With the backend named rt compiles it whether or not it has changed, and runs it, here on no input."""
     into.mkdir(parents=True, exist_ok=True)
-    do('rt', 'try', name, cwd=root, env={**os.environ, 'RATTLE_HOME': str(listening_kit(into, '-O3'))})
+    with listening_kit(into) as kit:
+        do(kit / 'bin/rt', 'run', '--backend', 'llvm', cwd=root / 'crates' / name, stdin=subprocess.DEVNULL)
     return caught(into)
 
 
@@ -112,11 +114,16 @@ def compiled(text, options, made):
         sys.exit(f'{said}\nthe module is not one for {MACHINE}')
 
 
+def archive(root):
+    """The static library of a repository, made anew. rt proves first what has changed."""
+    do('rt', 'lib', cwd=root / 'crates/host')
+    return root / 'crates/host/out/libhost.a'
+
+
 def library(root, into):
     """What to link, and what it is."""
     if MACHINE == 'x86_64':
-        do('rt', 'staticlib', 'host', cwd=root)
-        return root / 'target/staticlib/libhost.a', 'target/staticlib/libhost.a, as `rt staticlib host` writes it'
+        return archive(root), 'crates/host/out/libhost.a, as `rt lib` writes it there'
     if MACHINE != 'aarch64':
         sys.exit(f'nothing is known of calls on {MACHINE}')
     text, options = module(root, into)
@@ -125,16 +132,16 @@ def library(root, into):
                              f'by the same compiler ({" ".join(options)}), with functions and loops at lines of the cache')
 
 
-def tried_program(root, into, name):
+def made_program(root, into, name):
     """A program of the repository for this machine, and what it is."""
     if MACHINE == 'x86_64':
-        return root / 'target/bin' / name, f'target/bin/{name}, as `rt check {name}` makes it'
+        return root / 'crates' / name / 'out' / name, f'crates/{name}/out/{name}, as `rt run` makes it there'
     if MACHINE != 'aarch64':
         sys.exit(f'nothing is known of calls on {MACHINE}')
-    text, options = tried_module(root, into, name)
+    text, options = program_module(root, into, name)
     compiled(text, options, into / f'{name}.o')
     do('cc', '-pie', into / f'{name}.o', '-o', into / name)
-    return into / name, (f'**not target/bin/{name}**, which is for x86-64: the LLVM module that `rt try {name}` compiles, compiled for {MACHINE} '
+    return into / name, (f'**not crates/{name}/out/{name}**, which is for x86-64: the LLVM module that `rt run` compiles, compiled for {MACHINE} '
                          f'by the same compiler ({" ".join(options)})')
 
 

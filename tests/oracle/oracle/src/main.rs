@@ -164,7 +164,7 @@ fn show_all() -> Result<(), Box<dyn Error>> {
 fn asked(options: &Options) -> Result<Compare, Box<dyn Error>> {
     let start = options.value("start", PathBuf::new())?;
     let program = Program {
-        path: options.value("replay", PathBuf::from("target/bin/replay"))?,
+        path: options.value("replay", PathBuf::from("crates/replay/out/replay"))?,
         start: (!start.as_os_str().is_empty()).then_some(start),
     };
     Ok(Compare { program, failing: options.value("failing", PathBuf::from("target/oracle/failing"))? })
