@@ -1,4 +1,4 @@
-/* The engine as a static library: what `rt staticlib host` exports, for C on x86-64. Of C it calls memcpy and memset alone.
+/* The engine as a static library: what `rt lib` makes of `host`, for C on x86-64-v2. Of C it calls memcpy and memset alone.
  *
  * Records go by value and come back by value: what comes back is what to pass next time. A ring's cursor alone is changed where it stands.
  * Samples, zeros, rings, values, the order and a file's bytes are lent, each as a pointer and a count of elements. A pointer is used during

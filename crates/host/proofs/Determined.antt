@@ -1,5 +1,5 @@
 -- Each exported function's contract determines what is seen of a call: its result, and every slice and record that it is lent to change. `Reads.Post`, which
--- Rattle makes of a function's `ensures`, is the contract itself: no copy of it is written here, but for the one that has no `Reads`. Assumes nothing.
+-- Rattle makes of a function's `ensures`, is the contract itself: no copy of it is written here, but for that of the lent cursor, which `util` has. Assumes nothing.
 use mathlib.Core.Path.{◌≡◌, refl}
 use Prim.Native.Nat.{ℕ}
 use seplogic.Ra.Ura.{Ura}
@@ -9,7 +9,7 @@ use prog.Routine.{Routine}
 use types.Logic.{Logic}
 use contract.Monad.{Fun, fact}
 use contract.Lifetimes.{Lfts}
-use denote.Ref.{Bor}
+use denote.MutBor.{MutBor}
 use Rattle.numbers.specs.Outcome.{Answer, Determined, by_definition, outcome}
 use Rattle.answers.specs.declared.verdict.Verdict.{Verdict}
 use Rattle.util.specs.declared.delay_line.Cursor.{Cursor}
@@ -42,8 +42,8 @@ states_determined = by_definition
 pub run_determined : Determined (λ r s. flat_after r s.1.1.1.1.1.1.0.now s.1.1.1.1.1.1.1.0.now s.1.1.1.1.1.1.1.1.1.0.now) run.Post
 run_determined = by_definition
 
--- ---- proved by a walk, so that there is no `Reads`: its `ensures` is that of `advance_lent`, which util says is determined
-pub cursor_is : {M : Type 1} {𝓤 : Ura M} (𝓛 : Logic 𝓤) (at_mem : Memory → SProp 𝓤) (run : Routine → Fun 𝓤) (κs : Lfts 1) (c c' : Bor Cursor) (n : ℕ) (r : Verdict)
+-- ---- of a lent cursor: its `ensures` is that of `advance_lent`, which util says is determined
+pub cursor_is : {M : Type 1} {𝓤 : Ura M} (𝓛 : Logic 𝓤) (at_mem : Memory → SProp 𝓤) (run : Routine → Fun 𝓤) (κs : Lfts 1) (c c' : MutBor Cursor) (n : ℕ) (r : Verdict)
     → advance.ensures-1 𝓛 κs at_mem run c n (record { entry = c; exit = c' }) (record { entry = n; exit = n }) r ≡ fact 𝓤 (Lent (c, n) r c')
 cursor_is 𝓛 at_mem run κs c c' n r = refl
 

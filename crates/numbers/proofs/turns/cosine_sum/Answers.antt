@@ -4,9 +4,6 @@ use lib.Ieee.{of_bits, round}
 use Rattle.numbers.specs.Turns.{coefficients, cosine_coefficients, cosine_sum}
 use Rattle.numbers.proofs.turns.cosine_sum.Goals as goal
 
--- ?? slice-aggregate-horner : tie.Need-slice-aggregate-horner
--- slice-aggregate-horner c = refl
-
 pub returns : goal.returns
 unfolding cosine_sum cosine_coefficients coefficients of_bits round
 returns c = c.horner.ensures

@@ -4,9 +4,6 @@ use lib.Ieee.{of_bits, round}
 use Rattle.numbers.specs.Turns.{coefficients, sine_coefficients, sine_sum}
 use Rattle.numbers.proofs.turns.sine_sum.Goals as goal
 
--- ?? slice-aggregate-horner : tie.Need-slice-aggregate-horner
--- slice-aggregate-horner c = refl
-
 pub returns : goal.returns
 unfolding sine_sum sine_coefficients coefficients of_bits round
 returns c = rw c.horner.ensures
