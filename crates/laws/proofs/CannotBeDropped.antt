@@ -1,4 +1,4 @@
--- The premise of `safe-orders` that tied stages keep their sequence cannot be dropped.
+-- The premise of `safe_orders` that tied stages keep their sequence cannot be dropped.
 --
 -- Stages 1, 2 and 3 pass 1e16, -1e16 and 1 to one buffer that holds 0. None of them reads what another writes: they are tied by that buffer
 -- alone. The orders 1, 2, 3 and 1, 3, 2 have the same numbers, each once, and both are accepted. The first ends with 1 in the buffer, the second
@@ -26,7 +26,7 @@ run = added terms 1
 abbrev Refused : List ℕ → Type 0
 Refused order = (run order).ran.answer.number ≢ 0
 
--- `safe-orders` for this patch and these buffers, with no two stages tied
+-- `safe_orders` for this patch and these buffers, with no two stages tied
 abbrev WithoutTies : Type 0
 WithoutTies = (xs ys : List ℕ) → SameOrder (λ j k. false) xs ys → (Refused xs × Refused ys) ⊎ (run xs ≡ run ys)
 

@@ -4,7 +4,7 @@
 -- Two stages of the patch are tied where one of them writes a buffer that the other reads or writes (`specs/Tied.antt`). If every two tied stages
 -- stand in the same sequence in both orders, then both runs are refused, or both have the same outcome, whole: the answer with its activity, the
 -- pools with their marks, the states, what the string of each stage tells, the samples of both pools, and the rings. A run is `run_of`, the definition that the contract of `run` cites.
--- A number that names no stage is tied to none, so that where it stands is no premise (`no-stages`): an order that holds one is refused.
+-- A number that names no stage is tied to none, so that where it stands is no premise (`no_stages`): an order that holds one is refused.
 --
 -- What it does not say. Nothing of orders in which two tied stages change places: they can end differently, as case 12 of the listed cases
 -- does (`CannotBeDropped.antt`). Nothing of an order that leaves a stage out, or has one more. And where both runs are refused the refusals

@@ -1,6 +1,6 @@
 -- When two stages of a plan are tied: both are stages of the patch, and one of them writes a buffer that the other reads or writes.
 -- Tied stages keep their sequence in a safe order, and stages that are not tied may change places: `proofs/SafeOrders.antt`.
--- What a stage reads and writes is what the definition of a run says: `insAt` and `outsAt`. Definitions only. Assumes nothing.
+-- What a stage reads and writes is what the definition of a run says: `ins_at` and `outs_at`. Definitions only. Assumes nothing.
 use Rattle.std.specs.Prelude.{Bool, ◌&&◌, ◌||◌, ℕ, ltb}
 use Rattle.magnetron.specs.Buffers.{meets}
 use Rattle.engine.specs.Run.{Plan, ins_at, outs_at}

@@ -1,5 +1,5 @@
 -- Buffers and stale marks as stores by `BufferIndex`, each with the same two laws: what is put at one place is not seen at another
--- (`-other`), and two puts at different places change places (`-swap`). Then what the tests of names deny: `differ`, `meets-none`.
+-- (`_other`), and two puts at different places change places (`_swap`). Then what the tests of names deny: `differ`, `meets_none`.
 -- Assumes nothing.
 use mathlib.Core.Path.{◌≡◌, refl, sym, ap, ◌∙◌}
 use mathlib.Core.Logic.{◌≢◌, inl, inr}

@@ -1,4 +1,4 @@
--- A difference of two f64 is -0.0 exactly where it is -0.0 less +0.0 (`less-law`): any other is 0 with the sign plus, or at least one of f64's smallest values in magnitude, which rounds to no zero.
+-- A difference of two f64 is -0.0 exactly where it is -0.0 less +0.0 (`less_law`): any other is 0 with the sign plus, or at least one of f64's smallest values in magnitude, which rounds to no zero.
 -- Assumes nothing.
 use Rattle.std.proofs.Common.{◌≡◌, ℕ, zero, suc, ◌+◌, ◌-◌, ◌*◌, ◌^◌, ◌<◌, Bool, true, false, cond, not, ◌&&◌, T, eqb, ltb, ℤ, pos, sym, refl, ap, ◌∙◌, zero-lt-suc, mul_comm, add-mul, mul-pos, zero-mul, mul_right_comm, arith, ltb-true, ne_eqb}
 use mathlib.Core.Bool.{and-false, not-not}

@@ -1,4 +1,4 @@
--- `magnetron::content::sample_block` meets its contract: each arm is given that the content is its variant, at which `AllInReach` and `contentOf` compute.
+-- `magnetron::content::sample_block` meets its contract: each arm is given that the content is its variant, at which `AllInReach` and `content_of` compute.
 -- Assumes nothing.
 use mathlib.Core.Path.{ap₂, ◌∙◌}
 use lib.Ieee.{nan, binary64, mul}
