@@ -4,6 +4,7 @@ use Rattle.std.specs.Float.{binary64}
 use Rattle.std.specs.Float.Ieee.{add, sub, mul, div, le}
 use Rattle.numbers.specs.Constants.{zero64, one64, tau64}
 use Rattle.numbers.specs.Small.{max_of, abs_of, copysign_of}
+pub use Rattle.util.specs.declared.step.Step.{Step}
 use Rattle.util.specs.declared.soft_clip.SoftClip.{SoftClip}
 use Rattle.util.specs.declared.low_pass.OnePoleLowPass.{OnePoleLowPass}
 use Rattle.util.specs.declared.interaction.LowPassGain.{LowPassGain}
@@ -11,10 +12,6 @@ use Rattle.util.specs.declared.interaction.AnyInteraction.{AnyInteraction}
 use Rattle.util.specs.declared.interaction.AnyInteraction.TheVariants as any
 
 -- the next state, with the sample
-pub record Step (S : Type 0) : Type 0 where
-  pub next : S
-  pub sample : Float
-
 abbrev pub step : {S : Type 0} → S → Float → Step S
 step s y = record { next = s; sample = y }
 

@@ -9,3 +9,4 @@ pub mod lent;
 pub mod low_pass;
 pub mod reach;
 pub mod soft_clip;
+pub mod step;
