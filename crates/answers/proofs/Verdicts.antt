@@ -1,17 +1,20 @@
 -- Checks that come one after the other, and the verdict that the code hands on.
 --     unless-passed, first-passed     what it tells that checks passed
---     Numbered                        no refusal has the number 0
---     accepted, rejected              what the verdict's number tells
+--     numbered                        no refusal has the number 0, which says that a call is done
+--     accepted, rejected              what a verdict tells of its check
 --     stopped, went_on                the verdict of a check and of what comes after it
 -- Assumes nothing.
-use mathlib.Core.Path.{◌≡◌, refl, sym, ap, ◌∙◌}
+use mathlib.Core.Path.{◌≡◌, refl, ap}
 use mathlib.Core.Logic.{◌≢◌}
 use mathlib.Core.Bool.{Bool, true, false, false≢true, true≢false}
 use mathlib.Core.Option.{Option, none, some}
-use Prim.Native.Nat.{ℕ}
+use native.Mathlib.Omega.{arith}
+use Rattle.std.specs.Prelude.{Ok, Err, is_ok}
 use Rattle.order.specs.Checks.{unless, first, passed}
-use Rattle.answers.specs.Verdict.{verdict_of}
-use Rattle.answers.specs.declared.verdict.Verdict.{Verdict}
+use Rattle.answers.specs.Refusal.{number_of, verdict_of}
+use Rattle.answers.specs.declared.refusal.Reason.{Reason}
+use Rattle.answers.specs.declared.refusal.Reason.TheVariants.{Bounds, Window, Order, Ring, Buffer, Parameter, Clash, Outputs}
+use Rattle.answers.specs.declared.refusal.Refusal.{Refusal}
 
 module _ {R : Type 0} where
   pub unless-passed : (b : Bool) (r : R) → passed (unless b r) ≡ true → b ≡ true
@@ -22,46 +25,33 @@ module _ {R : Type 0} where
   first-passed none p e = (refl, e)
   first-passed (some r) p e = absurd (false≢true e)
 
--- no refusal has the number 0
-pub Numbered : Option ℕ → Type 0
-Numbered o = (verdict_of o).number ≡ 0 → passed o ≡ true
+pub numbered : (r : Reason) → number_of r ≢ 0
+numbered Bounds e = omega (arith, e)
+numbered Window e = omega (arith, e)
+numbered Order e = omega (arith, e)
+numbered Ring e = omega (arith, e)
+numbered Buffer e = omega (arith, e)
+numbered Parameter e = omega (arith, e)
+numbered Clash e = omega (arith, e)
+numbered Outputs e = omega (arith, e)
 
-pub numbered_unless : (b : Bool) (r : ℕ) → r ≢ 0 → Numbered (unless b r)
-unfolding Numbered verdict_of
-numbered_unless true r h e = refl
-numbered_unless false r h e = absurd (h e)
+-- the verdict of a check that was done, and of one that was not
+pub accepted : (o : Option Reason) → verdict_of o ≡ Ok tt → passed o ≡ true
+unfolding verdict_of
+accepted none e = refl
+accepted (some r) e = absurd (false≢true (ap is_ok e))
 
-pub numbered_first : (o p : Option ℕ) → Numbered o → Numbered p → Numbered (first o p)
-unfolding Numbered
-numbered_first none p h k e = k e
-numbered_first (some r) p h k e = h e
+pub rejected : (o : Option Reason) (r : Refusal) → verdict_of o ≡ Err r → passed o ≡ false
+unfolding verdict_of
+rejected none r e = absurd (true≢false (ap is_ok e))
+rejected (some q) r e = refl
 
-module _ (o : Option ℕ) (v : Verdict) (e : v ≡ verdict_of o) where
-  number_of : v.number ≡ (verdict_of o).number
-  number_of = ap (λ (w : Verdict). w.number) e
+pub stopped : (o p : Option Reason) (r : Refusal) → verdict_of o ≡ Err r → verdict_of (first o p) ≡ Err r
+unfolding verdict_of
+stopped none p r e = absurd (true≢false (ap is_ok e))
+stopped (some q) p r e = e
 
-  pub accepted : Numbered o → v.number ≡ 0 → passed o ≡ true
-  unfolding Numbered
-  accepted h z = h (sym number_of ∙ z)
-
-  pub rejected : v.number ≢ 0 → passed o ≡ false
-  unfolding verdict_of
-  rejected h = go o (λ z. h (number_of ∙ z))
-    where
-      go : (q : Option ℕ) → (verdict_of q).number ≢ 0 → passed q ≡ false
-      go none k = absurd (k refl)
-      go (some r) k = refl
-
-  pub stopped : (p : Option ℕ) → v.number ≢ 0 → v ≡ verdict_of (first o p)
-  stopped p h = e ∙ ap verdict_of (go o (rejected h))
-    where
-      go : (q : Option ℕ) → passed q ≡ false → q ≡ first q p
-      go none k = absurd (true≢false k)
-      go (some r) k = refl
-
-  pub went_on : (p : Option ℕ) (w : Verdict) → Numbered o → v.number ≡ 0 → w ≡ verdict_of p → w ≡ verdict_of (first o p)
-  went_on p w h z f = f ∙ ap verdict_of (go o (accepted h z))
-    where
-      go : (q : Option ℕ) → passed q ≡ true → p ≡ first q p
-      go none k = refl
-      go (some r) k = absurd (false≢true k)
+pub went_on : (o p : Option Reason) → verdict_of o ≡ Ok tt → verdict_of (first o p) ≡ verdict_of p
+unfolding verdict_of
+went_on none p e = refl
+went_on (some r) p e = absurd (false≢true (ap is_ok e))

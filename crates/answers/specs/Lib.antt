@@ -1,4 +1,3 @@
 -- The definitions that the contracts of `answers` cite.
-pub mod Verdict
+pub mod Refusal
 pub mod Activity
-pub mod Answer

@@ -3,7 +3,7 @@ ghost use Rattle.std.specs.Prelude.{◌≡◌};
 ghost use Rattle.answers.specs.Activity.{rank_of, greater_of};
 
 // Greatest last.
-#[derive(Clone, Copy)]
+#[derive(Clone, Copy, PartialEq, Eq, PartialOrd, Ord)]
 pub enum StageActivity {
     Exhausted,
     Internal,
@@ -11,20 +11,22 @@ pub enum StageActivity {
     Observer,
 }
 
-// The number by which two activities are compared.
-pub fn rank(a: StageActivity) -> u8
-    ensures { result ≡ rank_of a }
-{
-    match a {
-        StageActivity::Exhausted => 0,
-        StageActivity::Internal => 1,
-        StageActivity::External => 2,
-        StageActivity::Observer => 3,
+// The number by which an activity is told.
+impl From<StageActivity> for u8 {
+    ghost from_gives = { λ a n. n ≡ rank_of a };
+
+    fn from(activity: StageActivity) -> u8 {
+        match activity {
+            StageActivity::Exhausted => 0,
+            StageActivity::Internal => 1,
+            StageActivity::External => 2,
+            StageActivity::Observer => 3,
+        }
     }
 }
 
 pub fn greater(a: StageActivity, b: StageActivity) -> StageActivity
     ensures { result ≡ greater_of a b }
 {
-    if rank(a) < rank(b) { b } else { a }
+    a.max(b)
 }
