@@ -4,7 +4,6 @@ use Rattle.numbers.specs.Outcome.{Answer, Determined, by_definition, outcome}
 use Rattle.magnetron.specs.Single.{after_write}
 use Rattle.magnetron.proofs.buffer.BufferIndex.stage_activity.Reads as stage-activity
 use Rattle.magnetron.proofs.buffer.buffer_of.Reads as buffer-of
-use Rattle.magnetron.proofs.buffer.same_buffer.Reads as same-buffer
 use Rattle.magnetron.proofs.buffer.Marks.at.Reads as at
 use Rattle.magnetron.proofs.buffer.Marks.clear.Reads as clear
 use Rattle.magnetron.proofs.pool.Pools.marks.Reads as marks
@@ -40,8 +39,8 @@ use Rattle.magnetron.proofs.write.read_2_write_1.Reads as read-2-write-1
 use Rattle.magnetron.proofs.read.check_read.Reads as check-read
 use Rattle.magnetron.proofs.read.read.Reads as read
 
-pub buffer_determined : Answer stage-activity.Post × Answer buffer-of.Post × Answer same-buffer.Post × Answer at.Post × Answer clear.Post
-buffer_determined = (by_definition, by_definition, by_definition, by_definition, by_definition)
+pub buffer_determined : Answer stage-activity.Post × Answer buffer-of.Post × Answer at.Post × Answer clear.Post
+buffer_determined = (by_definition, by_definition, by_definition, by_definition)
 
 pub pool_determined : Answer marks.Post × Answer with-marks.Post × Answer set-reset.Post × Answer base-of.Post
 pool_determined = (by_definition, by_definition, by_definition, by_definition)

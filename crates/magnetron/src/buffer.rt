@@ -1,10 +1,10 @@
 // Buffers by index, the activity of what writes one, and the stale marks.
 ghost use Rattle.std.specs.Prelude.{◌≡◌};
-ghost use Rattle.magnetron.specs.Buffers.{buffer_of, same_buffer, activity_of, stale_at, cleared};
+ghost use Rattle.magnetron.specs.Buffers.{buffer_of, activity_of, stale_at, cleared};
 
 use answers::activity::StageActivity;
 
-#[derive(Clone, Copy)]
+#[derive(Clone, Copy, PartialEq, Eq)]
 pub enum BufferIndex {
     External(usize),
     Internal(usize),
@@ -15,6 +15,27 @@ pub enum BufferIndex {
 pub struct Marks {
     pub internal: [bool; 16],
     pub external: [bool; 16],
+}
+
+// The buffer of a number, for a host, a file or a stream, which have no enums: twice its index, plus one if external.
+impl From<usize> for BufferIndex {
+    ghost from_gives = { λ number buffer. buffer ≡ buffer_of number };
+
+    fn from(number: usize) -> BufferIndex {
+        let index = number / 2;
+        if number % 2 == 0 {
+            BufferIndex::Internal(index)
+        } else {
+            BufferIndex::External(index)
+        }
+    }
+}
+
+// The same by a name.
+pub fn buffer_of(number: usize) -> BufferIndex
+    ensures { result ≡ buffer_of number }
+{
+    BufferIndex::from(number)
 }
 
 impl BufferIndex {
@@ -28,71 +49,28 @@ impl BufferIndex {
     }
 }
 
-// The buffer of a number, for a host, a file or a stream, which have no enums: twice its index, plus one if external.
-pub fn buffer_of(number: usize) -> BufferIndex
-    ensures { result ≡ buffer_of number }
-{
-    if number % 2 == 0 {
-        return BufferIndex::Internal(number / 2);
-    }
-    BufferIndex::External(number / 2)
-}
-
-pub fn same_buffer(a: BufferIndex, b: BufferIndex) -> bool
-    ensures { result ≡ same_buffer a b }
-{
-    match a {
-        BufferIndex::External(i) => match b {
-            BufferIndex::External(j) => i == j,
-            BufferIndex::Internal(_) => false,
-        },
-        BufferIndex::Internal(i) => match b {
-            BufferIndex::External(_) => false,
-            BufferIndex::Internal(j) => i == j,
-        },
-    }
-}
-
 impl Marks {
     // Whether a buffer is stale; one that has no mark is not.
+    #[tactic(auto, unfolding(crate::specs::Buffers::stale_at))]
     pub fn at(self, b: BufferIndex) -> bool
         ensures { result ≡ stale_at b self }
     {
         match b {
-            BufferIndex::External(i) => {
-                if 16 <= i {
-                    return false;
-                }
-                return self.external[i];
-            }
-            BufferIndex::Internal(i) => {
-                if 16 <= i {
-                    return false;
-                }
-                return self.internal[i];
-            }
+            BufferIndex::External(i) => self.external.get(i).copied().unwrap_or(false),
+            BufferIndex::Internal(i) => self.internal.get(i).copied().unwrap_or(false),
         }
     }
 
     // The marks once a buffer has been written; one that has no mark changes nothing.
+    #[tactic(auto, unfolding(crate::specs::Buffers::cleared))]
     pub fn clear(mut self, b: BufferIndex) -> Marks
         ensures { result ≡ cleared b self }
     {
         match b {
-            BufferIndex::External(i) => {
-                if 16 <= i {
-                    return self;
-                }
-                self.external[i] = false;
-                return self;
-            }
-            BufferIndex::Internal(i) => {
-                if 16 <= i {
-                    return self;
-                }
-                self.internal[i] = false;
-                return self;
-            }
+            BufferIndex::External(i) if i < 16 => self.external[i] = false,
+            BufferIndex::Internal(i) if i < 16 => self.internal[i] = false,
+            _ => {}
         }
+        self
     }
 }

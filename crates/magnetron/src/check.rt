@@ -11,48 +11,34 @@ use crate::pool::Pools;
 use answers::verdict::{Verdict, refusal, refusal_unless};
 
 // Whether one pool keeps its bounds: at most 16 buffers of at most 4,096 samples, in a slice of that length.
+#[tactic(auto, unfolding(crate::specs::Checks::pool_ok))]
 pub fn pool_ok(count: usize, capacity: usize, len: usize) -> bool
     ensures { result ≡ pool_ok count capacity len }
 {
-    if 16 < count {
-        return false;
-    }
-    if 4096 < capacity {
-        return false;
-    }
-    count * capacity == len
+    count <= 16 && capacity <= 4096 && count * capacity == len
 }
 
 // Check 1, of both pools, whose slices have these lengths, and of the zeros.
+#[tactic(auto, unfolding(crate::specs::Checks::shape_ok))]
 pub fn shape_ok(pools: Pools, internal: usize, external: usize, zeros: &[f64]) -> bool
     ensures { result ≡ shape_ok pools internal external zeros.now }
 {
-    if !pool_ok(pools.internal.count, pools.internal.capacity, internal) {
-        return false;
-    }
-    if !pool_ok(pools.external.count, pools.external.capacity, external) {
-        return false;
-    }
-    if zeros.len() != pools.internal.capacity {
-        return false;
-    }
-    numbers::zeros::all_plus_zero(zeros)
+    pool_ok(pools.internal.count, pools.internal.capacity, internal)
+        && pool_ok(pools.external.count, pools.external.capacity, external)
+        && zeros.len() == pools.internal.capacity
+        && numbers::zeros::all_plus_zero(zeros)
 }
 
 // Check 2.
+#[tactic(auto, unfolding(crate::specs::Checks::window_ok))]
 pub fn window_ok(pools: Pools, n: usize) -> bool
     ensures { result ≡ window_ok pools n }
 {
-    if pools.internal.capacity < n {
-        return false;
-    }
-    if pools.external.count == 0 {
-        return true;
-    }
-    n <= pools.external.capacity
+    n <= pools.internal.capacity && (pools.external.count == 0 || n <= pools.external.capacity)
 }
 
 // Check 5, of one buffer.
+#[tactic(auto, unfolding(crate::specs::Checks::has_buffer))]
 pub fn has(pools: Pools, b: BufferIndex) -> bool
     ensures { result ≡ has_buffer pools b }
 {
@@ -66,42 +52,23 @@ pub fn has(pools: Pools, b: BufferIndex) -> bool
 pub fn all_there(pools: Pools, inputs: Inputs, output: BufferIndex) -> bool
     ensures { result ≡ all_there pools (list_of inputs ++ (output ∷ [])) }
 {
-    match inputs {
-        Inputs::Nothing => {
-            return has(pools, output);
-        }
-        Inputs::One(a) => {
-            if !has(pools, a) {
-                return false;
-            }
-            return has(pools, output);
-        }
-        Inputs::Two(a, b) => {
-            if !has(pools, a) {
-                return false;
-            }
-            if !has(pools, b) {
-                return false;
-            }
-            return has(pools, output);
-        }
-    }
+    let read = match inputs {
+        Inputs::Nothing => true,
+        Inputs::One(a) => has(pools, a),
+        Inputs::Two(a, b) => has(pools, a) && has(pools, b),
+    };
+    read && has(pools, output)
 }
 
 // Check 7.
 pub fn no_clash(n: usize, inputs: Inputs, output: BufferIndex, marks: Marks) -> bool
     ensures { result ≡ no_clash n (list_of inputs) (output ∷ []) marks }
 {
-    if n == 0 {
-        return true;
-    }
-    if !is_input(output, inputs) {
-        return true;
-    }
-    marks.at(output)
+    n == 0 || !is_input(output, inputs) || marks.at(output)
 }
 
 // Checks 1 and 2 of what is lent.
+#[tactic(auto, unfolding(crate::specs::Single::prepare_fault))]
 pub fn check_prepare(
     pools: Pools,
     internal: &[f64],

@@ -2,7 +2,7 @@
 ghost use Rattle.std.specs.Prelude.{◌≡◌};
 ghost use Rattle.magnetron.specs.Buffers.{hits, list_of};
 
-use crate::buffer::{BufferIndex, same_buffer};
+use crate::buffer::BufferIndex;
 
 #[derive(Clone, Copy)]
 pub enum Inputs {
@@ -16,17 +16,8 @@ pub fn is_input(b: BufferIndex, inputs: Inputs) -> bool
     ensures { result ≡ hits b (list_of inputs) }
 {
     match inputs {
-        Inputs::Nothing => {
-            return false;
-        }
-        Inputs::One(first) => {
-            return same_buffer(b, first);
-        }
-        Inputs::Two(first, second) => {
-            if same_buffer(b, first) {
-                return true;
-            }
-            return same_buffer(b, second);
-        }
+        Inputs::Nothing => false,
+        Inputs::One(first) => b == first,
+        Inputs::Two(first, second) => b == first || b == second,
     }
 }

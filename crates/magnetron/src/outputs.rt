@@ -4,7 +4,7 @@ ghost use Rattle.order.specs.Order.{runs};
 ghost use Rattle.magnetron.specs.Buffers.{list_of, written_by, cleared, louder_by};
 ghost use Rattle.magnetron.specs.Checks.{all_there, no_clash, none_twice};
 
-use crate::buffer::{BufferIndex, Marks, same_buffer};
+use crate::buffer::{BufferIndex, Marks};
 use crate::check::{all_there, has, no_clash};
 use crate::inputs::Inputs;
 use crate::pool::Pools;
@@ -23,15 +23,8 @@ impl Outputs {
         ensures { result ≡ all_there pools (list_of inputs ++ written_by self) }
     {
         match self {
-            Outputs::One(output) => {
-                return all_there(pools, inputs, output);
-            }
-            Outputs::Two(left, right) => {
-                if !all_there(pools, inputs, left) {
-                    return false;
-                }
-                return has(pools, right);
-            }
+            Outputs::One(output) => all_there(pools, inputs, output),
+            Outputs::Two(left, right) => all_there(pools, inputs, left) && has(pools, right),
         }
     }
 
@@ -40,12 +33,8 @@ impl Outputs {
         ensures { result ≡ none_twice (written_by self) }
     {
         match self {
-            Outputs::One(_) => {
-                return true;
-            }
-            Outputs::Two(left, right) => {
-                return !same_buffer(left, right);
-            }
+            Outputs::One(_) => true,
+            Outputs::Two(left, right) => left != right,
         }
     }
 
@@ -54,14 +43,9 @@ impl Outputs {
         ensures { result ≡ no_clash n (list_of inputs) (written_by self) marks }
     {
         match self {
-            Outputs::One(output) => {
-                return no_clash(n, inputs, output, marks);
-            }
+            Outputs::One(output) => no_clash(n, inputs, output, marks),
             Outputs::Two(left, right) => {
-                if !no_clash(n, inputs, left, marks) {
-                    return false;
-                }
-                return no_clash(n, inputs, right, marks);
+                no_clash(n, inputs, left, marks) && no_clash(n, inputs, right, marks)
             }
         }
     }
@@ -71,12 +55,8 @@ impl Outputs {
         ensures { result ≡ runs cleared (written_by self) marks }
     {
         match self {
-            Outputs::One(output) => {
-                return marks.clear(output);
-            }
-            Outputs::Two(left, right) => {
-                return marks.clear(left).clear(right);
-            }
+            Outputs::One(output) => marks.clear(output),
+            Outputs::Two(left, right) => marks.clear(left).clear(right),
         }
     }
 
@@ -85,12 +65,10 @@ impl Outputs {
         ensures { result ≡ runs louder_by (written_by self) activity }
     {
         match self {
-            Outputs::One(output) => {
-                return greater(activity, output.stage_activity());
-            }
+            Outputs::One(output) => greater(activity, output.stage_activity()),
             Outputs::Two(left, right) => {
                 let first = greater(activity, left.stage_activity());
-                return greater(first, right.stage_activity());
+                greater(first, right.stage_activity())
             }
         }
     }

@@ -19,31 +19,26 @@ pub enum Source {
 fn same_pool(a: BufferIndex, b: BufferIndex) -> bool
     ensures { result ≡ same_pool a b }
 {
-    match a {
-        BufferIndex::External(_) => match b {
-            BufferIndex::External(_) => true,
-            BufferIndex::Internal(_) => false,
-        },
-        BufferIndex::Internal(_) => match b {
-            BufferIndex::External(_) => false,
-            BufferIndex::Internal(_) => true,
-        },
-    }
+    matches!(
+        (a, b),
+        (BufferIndex::External(_), BufferIndex::External(_))
+            | (BufferIndex::Internal(_), BufferIndex::Internal(_))
+    )
 }
 
 // Where the loop that writes `output` finds an input's samples.
+#[tactic(auto, unfolding(crate::specs::Inside::Source::source_of))]
 pub fn source_of(pools: Pools, marks: Marks, input: BufferIndex, output: BufferIndex) -> Source
     requires { base_of pools input ≤ 65536 }
     ensures { result ≡ source_of pools marks input output }
 {
     if marks.at(input) {
-        return Source::Zeros;
+        Source::Zeros
+    } else if same_pool(input, output) {
+        Source::Own(pools.base_of(input))
+    } else {
+        Source::Other(pools.base_of(input))
     }
-    let at = pools.base_of(input);
-    if same_pool(input, output) {
-        return Source::Own(at);
-    }
-    Source::Other(at)
 }
 
 // Sample i of a source.

@@ -1,2 +1,0 @@
--- What the proofs of `Marks` use.
-mod Absent
