@@ -1,11 +1,11 @@
 -- A level whose other is there, and asks along a list, up to the first that is missing. Assumes nothing.
-use Rattle.std.proofs.Common.{◌≡◌, ◌≢◌, ℕ, Bool, true, false, cond, List, [], ◌∷◌, sym, refl, ap, ◌∙◌}
+use Rattle.std.proofs.Common.{◌≡◌, ◌≢◌, ℕ, ◌+◌, ◌<◌, ◌≤◌, true, false, List, [], ◌∷◌, length, get_or, drop, Option, Some, None, refl, add-one}
+use Rattle.std.proofs.Math.ListN.{drop_of_length-le}
+use Rattle.std.proofs.Math.Seq.{drop-cons}
 use lib.Ieee.{Float}
 use Rattle.microwave.specs.Parameter.{looked, required, of_pair, ask_list, all_found}
 use Rattle.microwave.specs.declared.parameter.Parameter.{Parameter}
 use Rattle.microwave.specs.declared.parameter.Parameter.TheVariants.{Fixed, Slot, WindowSeconds, Absent}
-use Rattle.microwave.specs.declared.parameter.Found.{Found}
-use Rattle.microwave.specs.declared.parameter.Found.TheVariants.{Number, Missing}
 use Rattle.microwave.specs.declared.parameter.Ask.{Ask}
 use Rattle.microwave.specs.declared.parameter.Asks.{Asks}
 use Rattle.microwave.specs.declared.parameter.Asks.TheVariants.{Nothing, One, Two, Three}
@@ -35,31 +35,24 @@ as_asked (Three a b c) = refl
 -- ---- along a list, up to the first that is missing
 
 module _ (values : List Float) (seconds : Float) where
-  pub none_found : (f : Found) (ask : Ask) (asks : List Ask) → f ≡ looked ask values seconds → f ≡ Missing → all_found (ask ∷ asks) values seconds ≡ false
+  pub none_found : (f : Option Float) (ask : Ask) (asks : List Ask) → f ≡ looked ask values seconds → f ≡ None → all_found (ask ∷ asks) values seconds ≡ false
   unfolding all_found
   none_found f ask asks e m = rw (← e, m)
 
-  pub one_found : (f : Found) (x : Float) (ask : Ask) (asks : List Ask) → f ≡ looked ask values seconds → f ≡ Number x
+  pub one_found : (f : Option Float) (x : Float) (ask : Ask) (asks : List Ask) → f ≡ looked ask values seconds → f ≡ Some x
       → all_found (ask ∷ asks) values seconds ≡ all_found asks values seconds
   unfolding all_found
   one_found f x ask asks e n = rw (← e, n)
 
-  none_left : all_found [] values seconds ≡ true
+  -- of the asks from i on, the first is missing, or is found; or there is none
+  pub none_found_at : (asks : List Ask) (i : ℕ) (d : Ask) {f : Option Float} → i < length asks → f ≡ looked (get_or asks i d) values seconds → f ≡ None
+      → all_found (drop i asks) values seconds ≡ false
+  none_found_at asks i d h e m = rw (drop-cons asks i d h) (none_found _ _ _ e m)
+
+  pub one_found_at : (asks : List Ask) (i : ℕ) (d : Ask) {f : Option Float} {x : Float} → i < length asks → f ≡ looked (get_or asks i d) values seconds → f ≡ Some x
+      → all_found (drop i asks) values seconds ≡ all_found (drop (i + 1) asks) values seconds
+  one_found_at asks i d h e n = rw (drop-cons asks i d h, add-one) (one_found _ _ _ _ e n)
+
+  pub none_left : (asks : List Ask) (i : ℕ) → length asks ≤ i → all_found (drop i asks) values seconds ≡ true
   unfolding all_found
-  none_left = refl
-
-pub data Along (values : List Float) (seconds : Float) : List Ask → Bool → Type 0 where
-  end : Along values seconds [] true
-  gone : {f : Found} {ask : Ask} {asks : List Ask} → f ≡ looked ask values seconds → f ≡ Missing → Along values seconds (ask ∷ asks) false
-  more : {f : Found} {x : Float} {ask : Ask} {asks : List Ask} {b : Bool} → f ≡ looked ask values seconds → f ≡ Number x → Along values seconds asks b
-      → Along values seconds (ask ∷ asks) b
-
-along : {values : List Float} {seconds : Float} {asks : List Ask} {b : Bool} → Along values seconds asks b → all_found asks values seconds ≡ b
-along end = none_left _ _
-along (gone e m) = none_found _ _ _ _ _ e m
-along (more e n rest) = one_found _ _ _ _ _ _ e n ∙ along rest
-
--- the number that a check answers for asks that come out so
-pub judged : {values : List Float} {seconds : Float} {asks : Asks} (known : Asks) {b : Bool} → asks ≡ known
-    → Along values seconds (ask_list known) b → cond {A = ℕ} b 0 6 ≡ cond (all_found (ask_list asks) values seconds) 0 6
-judged known e a = rw e (ap (λ (f : Bool). cond {A = ℕ} f 0 6) (sym (along a)))
+  none_left asks i h = rw (drop_of_length-le asks h) refl

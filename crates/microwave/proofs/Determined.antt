@@ -1,6 +1,6 @@
 -- Each public contract determines what is seen of a call: the result, and what each lent slice holds then. `Reads.Post`, which Rattle makes of the function's `ensures`,
 -- is the contract itself: no copy of it is written here. Assumes nothing.
-use Rattle.std.proofs.Common.{sym, ap, ◌∙◌}
+use Rattle.std.proofs.Common.{ℕ, Fits, w64, sym, ap, ◌∙◌}
 use Rattle.numbers.specs.Outcome.{Answer, Determined, as_follows, by_definition, outcome, both}
 use Rattle.util.specs.Interaction.{step}
 use Rattle.microwave.specs.Waveguide.{strung}
@@ -10,12 +10,8 @@ use Rattle.microwave.proofs.parameter.required.Reads as required
 use Rattle.microwave.proofs.parameter.or_zero.Reads as or-zero
 use Rattle.microwave.proofs.parameter.or_one.Reads as or-one
 use Rattle.microwave.proofs.parameter.of_pair.Reads as of_pair
-use Rattle.microwave.proofs.parameter.missing.Reads as missing
+use Rattle.microwave.proofs.parameter.all_found.Reads as all-found
 use Rattle.microwave.proofs.parameter.first_number.Reads as first-number
-use Rattle.microwave.proofs.parameter.no_numbers.Reads as no-numbers
-use Rattle.microwave.proofs.parameter.one_number.Reads as one_number
-use Rattle.microwave.proofs.parameter.two_numbers.Reads as two-numbers
-use Rattle.microwave.proofs.parameter.three_numbers.Reads as three-numbers
 use Rattle.microwave.proofs.parameter.numbers_found.Reads as numbers-found
 use Rattle.microwave.proofs.plain.clip_limit.Reads as clip-limit
 use Rattle.microwave.proofs.plain.Shape.shaped.Reads as shaped
@@ -39,11 +35,11 @@ use Rattle.microwave.proofs.window.one_pole_window.Reads as one-pole-window
 use Rattle.microwave.proofs.window.biquad_window.Reads as biquad-window
 use Rattle.microwave.proofs.window.string_window.Reads as string-window
 
-pub parameter_determined : Answer lookup.Post × Answer required.Post × Answer or-zero.Post × Answer or-one.Post × Answer of_pair.Post × Answer missing.Post × Answer numbers-found.Post
-parameter_determined = (by_definition, by_definition, by_definition, by_definition, by_definition, by_definition, by_definition)
+pub parameter_determined : Answer lookup.Post × Answer required.Post × Answer or-zero.Post × Answer or-one.Post × Answer of_pair.Post × Answer all-found.Post
+parameter_determined = (by_definition, by_definition, by_definition, by_definition, by_definition, by_definition)
 
-pub numbers_determined : Answer first-number.Post × Answer no-numbers.Post × Answer one_number.Post × Answer two-numbers.Post × Answer three-numbers.Post
-numbers_determined = (by_definition, by_definition, by_definition, by_definition, by_definition)
+pub numbers_determined : Answer first-number.Post × ((N : ℕ) (sized : Fits w64 N) → Answer (numbers-found.Post N sized))
+numbers_determined = (by_definition, λ N sized. by_definition)
 
 pub plain_determined : Answer clip-limit.Post × Answer shaped.Post
 plain_determined = (by_definition, by_definition)

@@ -1,37 +1,33 @@
 -- The number that stands for a parameter in a window, and check 6 where there is none (01, "Buffers"). Assumes nothing.
-use Rattle.std.specs.Prelude.{ℕ, ◌≤◌, Bool, true, cond, ◌&&◌, List, [], ◌∷◌, length, ◌==◌, nat_lt, slice_index_or, Float}
-use Rattle.std.specs.Float.{nan}
+use Rattle.std.specs.Prelude.{ℕ, ◌≤◌, Bool, true, ◌&&◌, List, [], ◌∷◌, length, ◌==◌, slice_index_or, slice_get, Option, Some, None, Float}
 use Rattle.numbers.specs.Constants.{zero64, one64}
 use Rattle.microwave.specs.declared.parameter.Parameter.{Parameter}
 use Rattle.microwave.specs.declared.parameter.Parameter.TheVariants.{Fixed, Slot, WindowSeconds, Absent}
-use Rattle.microwave.specs.declared.parameter.Found.{Found}
-use Rattle.microwave.specs.declared.parameter.Found.TheVariants.{Number, Missing}
 use Rattle.microwave.specs.declared.parameter.Ask.{Ask}
 use Rattle.microwave.specs.declared.parameter.Asks.{Asks}
 use Rattle.microwave.specs.declared.parameter.Asks.TheVariants.{Nothing, One, Two, Three}
 use Rattle.microwave.specs.declared.parameter.Numbers.{Numbers}
-use Rattle.microwave.specs.declared.parameter.AllThree.{AllThree}
 
 -- "A parameter is a fixed number, a slot, the window's seconds (sample width w times n), or absent.": `absent` is what stands for it then
-abbrev pub number_in : Parameter → Found → List Float → Float → Found
-number_in (Fixed x) absent values seconds = Number x
-number_in (Slot i) absent values seconds = cond (nat_lt i (length values)) (Number (slice_index_or values i nan)) Missing
-number_in WindowSeconds absent values seconds = Number seconds
+abbrev pub number_in : Parameter → Option Float → List Float → Float → Option Float
+number_in (Fixed x) absent values seconds = Some x
+number_in (Slot i) absent values seconds = slice_get values i
+number_in WindowSeconds absent values seconds = Some seconds
 number_in Absent absent values seconds = absent
 
-abbrev pub looked : Ask → List Float → Float → Found
+abbrev pub looked : Ask → List Float → Float → Option Float
 looked ask values seconds = number_in ask.parameter ask.absent values seconds
 
 -- "Only out_level and phase may be absent.": every other parameter is required, and 0.0 stands for an absent phase
 abbrev pub required : Parameter → Ask
-required parameter = record { parameter = parameter; absent = Missing }
+required parameter = record { parameter = parameter; absent = None }
 
 abbrev pub or_zero : Parameter → Ask
-or_zero parameter = record { parameter = parameter; absent = Number zero64 }
+or_zero parameter = record { parameter = parameter; absent = Some zero64 }
 
 -- "out_level, 1.0 if absent"
 abbrev pub or_one : Parameter → Ask
-or_one level = record { parameter = level; absent = Number one64 }
+or_one level = record { parameter = level; absent = Some one64 }
 
 -- of "an optional pair of out levels", one, beside the other: "6 also where just one level of the pair is absent"
 abbrev pub of_pair : Parameter → Parameter → Ask
@@ -46,14 +42,14 @@ pub record Reported : Type 0 where
   pub value : Float
 
 -- "A slot that yields no value ends the check with 6." It has no value: 0.0 stands there.
-abbrev pub reported : Found → Reported
-reported (Number x) = record { number = 0; value = x }
-reported Missing = record { number = 6; value = zero64 }
+abbrev pub reported : Option Float → Reported
+reported (Some x) = record { number = 0; value = x }
+reported None = record { number = 6; value = zero64 }
 
 -- "6: a parameter's slot is past the lent values, or a required parameter is absent"
-pub data Refused (values : List Float) : Parameter → Found → Type 0 where
-  slot_past : {i : ℕ} {absent : Found} → length values ≤ i → Refused values (Slot i) absent
-  required_absent : Refused values Absent Missing
+pub data Refused (values : List Float) : Parameter → Option Float → Type 0 where
+  slot_past : {i : ℕ} {absent : Option Float} → length values ≤ i → Refused values (Slot i) absent
+  required_absent : Refused values Absent None
 
 -- ---- what a stage asks for: up to three parameters beside its levels
 
@@ -76,9 +72,6 @@ number_for ask values seconds = (reported (looked ask values seconds)).value
 abbrev pub ask_at : List Ask → ℕ → Ask
 ask_at asks i = slice_index_or asks i (or_zero Absent)
 
-abbrev pub padded_of : List Ask → AllThree
-padded_of asks = record { first = ask_at asks 0; second = ask_at asks 1; third = ask_at asks 2 }
-
 -- the numbers found, in the order of the asks
 unfoldable pub numbers_of : List Ask → List Float → Float → Numbers
 numbers_of asks values seconds = record {
@@ -86,7 +79,3 @@ numbers_of asks values seconds = record {
   second = number_for (ask_at asks 1) values seconds;
   third = number_for (ask_at asks 2) values seconds;
 }
-
--- those of nothing asked
-abbrev pub no_numbers : Numbers
-no_numbers = record { first = zero64; second = zero64; third = zero64 }

@@ -7,7 +7,7 @@ ghost use Rattle.microwave.specs.Biquads.{with_poles, LowPass2, HighPass2, BandP
 ghost use Rattle.microwave.specs.OnePole.{low_pass_alpha, high_pass_alpha, one_pole_step};
 ghost use Rattle.microwave.specs.Filter.{biquad_asks, filter_asks, with_numbers, biquad_step, tuned_to, coded, coefficients_at, machine_of};
 
-use crate::parameter::{Asks, Numbers, Parameter, one_number, required, two_numbers};
+use crate::parameter::{Asks, Numbers, Parameter, numbers_found, required};
 use numbers::small::{held, maximum, recip};
 use numbers::turns::{cosine_turns, sine_turns};
 
@@ -65,7 +65,7 @@ fn biquad_asks(frequency: Parameter, quality: Parameter) -> Asks
 fn biquad_numbers(frequency: Parameter, quality: Parameter, values: &[f64], seconds: f64) -> Numbers
     ensures { result ≡ numbers_of (ask_list (biquad_asks frequency quality)) values.now seconds }
 {
-    two_numbers(required(frequency), required(quality), values, seconds)
+    numbers_found([required(frequency), required(quality)], values, seconds)
 }
 
 impl FilterType {
@@ -89,11 +89,11 @@ impl FilterType {
         ensures { result ≡ numbers_of (filter_asks self) values.now seconds }
     {
         match self {
-            FilterType::LowPass { cutoff } => one_number(required(cutoff), values, seconds),
+            FilterType::LowPass { cutoff } => numbers_found([required(cutoff)], values, seconds),
             FilterType::LowPass2 { resonance, quality } => {
                 biquad_numbers(resonance, quality, values, seconds)
             }
-            FilterType::HighPass { cutoff } => one_number(required(cutoff), values, seconds),
+            FilterType::HighPass { cutoff } => numbers_found([required(cutoff)], values, seconds),
             FilterType::HighPass2 { resonance, quality } => {
                 biquad_numbers(resonance, quality, values, seconds)
             }

@@ -1,6 +1,6 @@
 // A stage's parameter, and the number that stands for it in a window: what the Rust has automation traits for. Rests on nothing.
-ghost use Rattle.std.specs.Prelude.{◌≡◌, [], ◌∷◌, if◌then◌else◌};
-ghost use Rattle.microwave.specs.Parameter.{looked, required as requiredAsk, or_zero, or_one, of_pair, ask_list, ask_at, all_found, padded_of, number_for, numbers_of, no_numbers};
+ghost use Rattle.std.specs.Prelude.{◌≡◌};
+ghost use Rattle.microwave.specs.Parameter.{looked, required as requiredAsk, or_zero, or_one, of_pair, ask_list, ask_at, all_found, number_for, numbers_of};
 
 #[derive(Clone, Copy)]
 pub enum Parameter {
@@ -10,37 +10,22 @@ pub enum Parameter {
     Absent,
 }
 
-// What looking a parameter up finds.
-#[derive(Clone, Copy)]
-pub enum Found {
-    Number(f64),
-    Missing,
-}
-
-// A parameter, and what stands for it where it is absent: Missing for a required one.
+// A parameter, and what stands for it where it is absent: nothing for a required one.
 #[derive(Clone, Copy)]
 pub struct Ask {
     pub parameter: Parameter,
-    pub absent: Found,
+    pub absent: Option<f64>,
 }
 
-// The number that answers, or Missing: a slot past the lent values, or a required parameter that is absent.
-pub fn lookup(ask: Ask, values: &[f64], seconds: f64) -> Found
+// The number that answers. There is none for a slot past the lent values, or for a required parameter that is absent.
+pub fn lookup(ask: Ask, values: &[f64], seconds: f64) -> Option<f64>
     ensures { result ≡ looked ask values.now seconds }
 {
-    let parameter = ask.parameter;
-    let absent = ask.absent;
-    match parameter {
-        Parameter::Fixed(x) => Found::Number(x),
-        Parameter::Slot(i) => {
-            if i < values.len() {
-                Found::Number(values[i])
-            } else {
-                Found::Missing
-            }
-        }
-        Parameter::WindowSeconds => Found::Number(seconds),
-        Parameter::Absent => absent,
+    match ask.parameter {
+        Parameter::Fixed(x) => Some(x),
+        Parameter::Slot(i) => values.get(i).copied(),
+        Parameter::WindowSeconds => Some(seconds),
+        Parameter::Absent => ask.absent,
     }
 }
 
@@ -61,21 +46,13 @@ pub struct Numbers {
     pub third: f64,
 }
 
-// As many asks as any stage has: 0.0 answers those that are not there.
-#[derive(Clone, Copy)]
-struct AllThree {
-    first: Ask,
-    second: Ask,
-    third: Ask,
-}
-
 // A parameter that may not be absent.
 pub fn required(parameter: Parameter) -> Ask
     ensures { result ≡ requiredAsk parameter }
 {
     Ask {
         parameter,
-        absent: Found::Missing,
+        absent: None,
     }
 }
 
@@ -85,7 +62,7 @@ pub fn or_zero(parameter: Parameter) -> Ask
 {
     Ask {
         parameter,
-        absent: Found::Number(0.0),
+        absent: Some(0.0),
     }
 }
 
@@ -95,7 +72,7 @@ pub fn or_one(level: Parameter) -> Ask
 {
     Ask {
         parameter: level,
-        absent: Found::Number(1.0),
+        absent: Some(1.0),
     }
 }
 
@@ -109,69 +86,27 @@ pub fn of_pair(level: Parameter, other: Parameter) -> Ask
     or_one(level)
 }
 
-fn padded(asks: Asks) -> AllThree
-    ensures { result ≡ padded_of (ask_list asks) }
+// Check 6 of some asks: whether each has its number.
+fn each_found<const N: usize>(asks: [Ask; N], values: &[f64], seconds: f64) -> bool
+    ensures { result ≡ all_found asks.entry values.now seconds }
 {
-    let nothing = or_zero(Parameter::Absent);
-    match asks {
-        Asks::Nothing => AllThree {
-            first: nothing,
-            second: nothing,
-            third: nothing,
-        },
-        Asks::One(first) => AllThree {
-            first,
-            second: nothing,
-            third: nothing,
-        },
-        Asks::Two(first, second) => AllThree {
-            first,
-            second,
-            third: nothing,
-        },
-        Asks::Three(first, second, third) => AllThree {
-            first,
-            second,
-            third,
-        },
+    for ask in &asks {
+        let Some(_) = lookup(*ask, values, seconds) else {
+            return false;
+        };
     }
+    true
 }
 
-// 0 where each ask has its number, else 6.
-pub fn missing(asks: Asks, values: &[f64], seconds: f64) -> usize
-    ensures { result ≡ (if all_found (ask_list asks) values.now seconds then 0 else 6) }
+// Check 6: whether each ask has its number.
+pub fn all_found(asks: Asks, values: &[f64], seconds: f64) -> bool
+    ensures { result ≡ all_found (ask_list asks) values.now seconds }
 {
     match asks {
-        Asks::Nothing => {
-            return 0;
-        }
-        Asks::One(first) => {
-            let Found::Number(_) = lookup(first, values, seconds) else {
-                return 6;
-            };
-            return 0;
-        }
-        Asks::Two(first, second) => {
-            let Found::Number(_) = lookup(first, values, seconds) else {
-                return 6;
-            };
-            let Found::Number(_) = lookup(second, values, seconds) else {
-                return 6;
-            };
-            return 0;
-        }
-        Asks::Three(first, second, third) => {
-            let Found::Number(_) = lookup(first, values, seconds) else {
-                return 6;
-            };
-            let Found::Number(_) = lookup(second, values, seconds) else {
-                return 6;
-            };
-            let Found::Number(_) = lookup(third, values, seconds) else {
-                return 6;
-            };
-            return 0;
-        }
+        Asks::Nothing => each_found([], values, seconds),
+        Asks::One(first) => each_found([first], values, seconds),
+        Asks::Two(first, second) => each_found([first, second], values, seconds),
+        Asks::Three(first, second, third) => each_found([first, second, third], values, seconds),
     }
 }
 
@@ -179,7 +114,7 @@ pub fn missing(asks: Asks, values: &[f64], seconds: f64) -> usize
 fn number(ask: Ask, values: &[f64], seconds: f64) -> f64
     ensures { result ≡ number_for ask values.now seconds }
 {
-    let Found::Number(x) = lookup(ask, values, seconds) else {
+    let Some(x) = lookup(ask, values, seconds) else {
         return 0.0;
     };
     x
@@ -191,63 +126,31 @@ pub fn first_number(asks: Asks, values: &[f64], seconds: f64) -> f64
 {
     match asks {
         Asks::Nothing => 0.0,
-        Asks::One(first) => number(first, values, seconds),
-        Asks::Two(first, _) => number(first, values, seconds),
-        Asks::Three(first, _, _) => number(first, values, seconds),
+        Asks::One(first) | Asks::Two(first, _) | Asks::Three(first, _, _) => {
+            number(first, values, seconds)
+        }
     }
 }
 
-// The numbers of a stage that asks for nothing.
-pub fn no_numbers() -> Numbers
-    ensures { result ≡ no_numbers }
+// The number of ask k, 0.0 where there is no such ask.
+fn number_at(asks: &[Ask], k: usize, values: &[f64], seconds: f64) -> f64
+    ensures { result ≡ number_for (ask_at asks.now k) values.now seconds }
 {
-    Numbers {
-        first: 0.0,
-        second: 0.0,
-        third: 0.0,
-    }
+    let Some(ask) = asks.get(k) else {
+        return 0.0;
+    };
+    number(*ask, values, seconds)
 }
 
-// The number of one ask, or of two, or of three, for a caller that has them by themselves: put into `Asks` they go through memory, which costs a
-// stage more than to look them up.
-pub fn one_number(first: Ask, values: &[f64], seconds: f64) -> Numbers
-    ensures { result ≡ numbers_of (first ∷ []) values.now seconds }
+// The numbers of up to three asks, in their order, 0.0 where there is none. That many asks by themselves, and not put into `Asks`, whose way
+// through memory costs a stage more than to look them up.
+#[tactic(auto, unfolding(crate::specs::Parameter::numbers_of))]
+pub fn numbers_found<const N: usize>(asks: [Ask; N], values: &[f64], seconds: f64) -> Numbers
+    ensures { result ≡ numbers_of asks.entry values.now seconds }
 {
     Numbers {
-        first: number(first, values, seconds),
-        second: 0.0,
-        third: 0.0,
-    }
-}
-
-pub fn two_numbers(first: Ask, second: Ask, values: &[f64], seconds: f64) -> Numbers
-    ensures { result ≡ numbers_of (first ∷ second ∷ []) values.now seconds }
-{
-    Numbers {
-        first: number(first, values, seconds),
-        second: number(second, values, seconds),
-        third: 0.0,
-    }
-}
-
-pub fn three_numbers(first: Ask, second: Ask, third: Ask, values: &[f64], seconds: f64) -> Numbers
-    ensures { result ≡ numbers_of (first ∷ second ∷ third ∷ []) values.now seconds }
-{
-    Numbers {
-        first: number(first, values, seconds),
-        second: number(second, values, seconds),
-        third: number(third, values, seconds),
-    }
-}
-
-// The numbers found, in the order of the asks, 0.0 where there is none.
-pub fn numbers_found(asks: Asks, values: &[f64], seconds: f64) -> Numbers
-    ensures { result ≡ numbers_of (ask_list asks) values.now seconds }
-{
-    let asked = padded(asks);
-    Numbers {
-        first: number(asked.first, values, seconds),
-        second: number(asked.second, values, seconds),
-        third: number(asked.third, values, seconds),
+        first: number_at(&asks, 0, values, seconds),
+        second: number_at(&asks, 1, values, seconds),
+        third: number_at(&asks, 2, values, seconds),
     }
 }
