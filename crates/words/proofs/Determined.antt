@@ -7,7 +7,7 @@ use Rattle.numbers.specs.Outcome.{Answer, Determined, by_definition}
 use Rattle.words.specs.declared.reader.Cursor.{Cursor}
 use Rattle.words.specs.declared.reader.Filled.{Filled}
 use Rattle.words.specs.declared.writer.Poured.{Poured}
-use Rattle.words.specs.declared.writer.Stored.{Stored}
+use Rattle.std.specs.Prelude.{Option}
 use Rattle.words.proofs.number.from_word.Reads as from-word
 use Rattle.words.proofs.number.to_word.Reads as to_word
 use Rattle.words.proofs.reader.Cursor.left.Reads as left
@@ -25,5 +25,5 @@ pub reader_determined : Answer left.Post × Answer take.Post
     × Determined {O = Cursor × List ℕ} (λ r s. (r, s.1.0.now)) front.Post
 reader_determined = (by_definition, by_definition, by_definition, by_definition)
 
-pub writer_determined : Determined {O = Stored × List ℕ} (λ r s. (r, s.0.now)) put.Post × Determined {O = Poured × List ℕ} (λ r s. (r, s.0.now)) pour.Post
+pub writer_determined : Determined {O = Option ℕ × List ℕ} (λ r s. (r, s.0.now)) put.Post × Determined {O = Poured × List ℕ} (λ r s. (r, s.0.now)) pour.Post
 writer_determined = (by_definition, by_definition)

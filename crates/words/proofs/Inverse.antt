@@ -22,8 +22,7 @@ use Rattle.words.specs.Word.{word_of, bytes_of}
 use Rattle.words.specs.Number.{from_word, to_word}
 use Rattle.words.specs.Reader.{taken_of}
 use Rattle.words.specs.Writer.{put_of}
-use Rattle.words.specs.declared.reader.Taken.TheVariants.{Word}
-use Rattle.words.specs.declared.writer.Stored.TheVariants.{Next}
+use Rattle.std.specs.Prelude.{Some}
 
 word_of_lem : (n w : ℕ) → w < 256 ^ n → word_of (bytes_of n w) ≡ w
 word_of_lem zero w h = omega arith
@@ -65,7 +64,7 @@ bytes_before (suc n) (b ∷ bytes) h =
 
 module _ (bytes : List ℕ) (at : ℕ) (lies : at + 8 ≤ length bytes) where
   pub put_then_taken : (w : ℕ) → w < 2 ^ 64
-      → taken_of (put_of bytes at w).1 (record { at = at; end = at + 8 }) ≡ Word w (record { at = at + 8; end = at + 8 })
+      → taken_of (put_of bytes at w).1 (record { at = at; end = at + 8 }) ≡ Some (w, record { at = at + 8; end = at + 8 })
   unfolding taken_of put_of
   put_then_taken w h =
       let fits : at + 8 ≤ length (sets bytes at (bytes_of 8 w)) = rw length-sets lies in
@@ -77,12 +76,12 @@ module _ (bytes : List ℕ) (at : ℕ) (lies : at + 8 ≤ length bytes) where
   unchanged : sets bytes at (take 8 (drop at bytes)) ≡ bytes
   unchanged = sets-eq (take 8 (drop at bytes)) bytes at (rw there lies) ∙ rw (there, ← take-add, take-append-drop)
 
-  pub taken_then_put : T (are_bytes bytes) → put_of bytes at (word_of (take 8 (drop at bytes))) ≡ (Next (at + 8), bytes)
+  pub taken_then_put : T (are_bytes bytes) → put_of bytes at (word_of (take 8 (drop at bytes))) ≡ (Some (at + 8), bytes)
   unfolding put_of
   taken_then_put h =
       rw (le-leb (at + 8) (length bytes) lies)
-      (ap (λ (vs : List ℕ). (Next (at + 8), sets bytes at vs)) (bytes_of_word (take 8 (drop at bytes)) there (bytes_before 8 (drop at bytes) (bytes_after at bytes h)))
-      ∙ ap (λ (l : List ℕ). (Next (at + 8), l)) unchanged)
+      (ap (λ (vs : List ℕ). (Some (at + 8), sets bytes at vs)) (bytes_of_word (take 8 (drop at bytes)) there (bytes_before 8 (drop at bytes) (bytes_after at bytes h)))
+      ∙ ap (λ (l : List ℕ). (Some (at + 8), l)) unchanged)
 
 pub number_and_back : (x : Float) → T (fits binary64 x) → from_word (to_word x) ≡ x
 unfolding to_word is_nan of_bits

@@ -1,4 +1,3 @@
 -- Laws that the proofs of `words::reader` alone cite.
 mod Eight
 mod Fill
-mod Front

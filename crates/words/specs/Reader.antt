@@ -1,24 +1,22 @@
 -- What taking words from a lent buffer gives. Assumes nothing.
-use Rattle.std.specs.Prelude.{ℕ, zero, suc, ◌+◌, ◌-◌, cond, ◌&&◌, List, leb, Float, length, take, drop, set}
+use Rattle.std.specs.Prelude.{ℕ, zero, suc, ◌+◌, ◌-◌, cond, ◌&&◌, List, Option, None, Some, leb, Float, length, take, drop, set}
 use Rattle.std.proofs.Math.Seq.{paste}
 use Rattle.words.specs.Word.{word_of}
 use Rattle.words.specs.Number.{from_word}
 use Rattle.words.specs.declared.reader.Cursor.{Cursor}
 use Rattle.words.specs.declared.reader.Filled.{Filled}
-use Rattle.words.specs.declared.reader.Taken.{Taken}
-use Rattle.words.specs.declared.reader.Taken.TheVariants.{Word, Short}
 
--- the eight bytes at the cursor make a word, and the cursor stands past them; Short where fewer are left
-unfoldable pub taken_of : List ℕ → Cursor → Taken
+-- the eight bytes at the cursor make a word, and the cursor stands past them; None where fewer are left
+unfoldable pub taken_of : List ℕ → Cursor → Option (ℕ × Cursor)
 taken_of bytes c =
     cond (leb c.end (length bytes) && leb (c.at + 8) c.end)
-    (Word (word_of (take 8 (drop c.at bytes))) (record { at = c.at + 8; end = c.end }))
-    Short
+    (Some (word_of (take 8 (drop c.at bytes)), record { at = c.at + 8; end = c.end }))
+    None
 
 -- what follows where a word was taken, and what where none was
-abbrev pub if_taken : {A : Type 0} → Taken → (ℕ → Cursor → A) → A → A
-if_taken (Word w rest) taken short = taken w rest
-if_taken Short taken short = short
+abbrev pub if_taken : {A : Type 0} → Option (ℕ × Cursor) → (ℕ → Cursor → A) → A → A
+if_taken (Some word) taken short = taken word.0 word.1
+if_taken None taken short = short
 
 -- at most n samples from an index on are filled, word after word
 unfoldable pub fills_of : List ℕ → ℕ → Cursor → List Float → ℕ → Filled × List Float

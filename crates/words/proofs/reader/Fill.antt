@@ -8,10 +8,10 @@ use lib.ListN.{length, set, length-set}
 use Rattle.words.specs.Number.{from_word}
 use Rattle.words.specs.Reader.{taken_of, fills_of}
 use Rattle.words.specs.declared.reader.Cursor.{Cursor}
-use Rattle.words.specs.declared.reader.Taken.TheVariants.{Word, Short}
+use Rattle.std.specs.Prelude.{None, Some}
 
 module _ (bytes : List ℕ) (c : Cursor) (samples : List Float) (next : ℕ) where
-  pub fill_more : (w : ℕ) (rest : Cursor) (x : Float) → next < length samples → taken_of bytes c ≡ Word w rest → x ≡ from_word w
+  pub fill_more : (w : ℕ) (rest : Cursor) (x : Float) → next < length samples → taken_of bytes c ≡ Some (w, rest) → x ≡ from_word w
       → fills_of bytes (length (set samples next x) - (next + 1)) rest (set samples next x) (next + 1)
       ≡ fills_of bytes (length samples - next) c samples next
   unfolding fills_of
@@ -19,7 +19,7 @@ module _ (bytes : List ℕ) (c : Cursor) (samples : List Float) (next : ℕ) whe
       let n : length samples - next ≡ suc (length samples - (next + 1)) = omega arith in
       rw (length-set, n, t, e)
 
-  pub fill_short : (n : ℕ) → taken_of bytes c ≡ Short → fills_of bytes n c samples next ≡ (record { cursor = c; next = next }, samples)
+  pub fill_short : (n : ℕ) → taken_of bytes c ≡ None → fills_of bytes n c samples next ≡ (record { cursor = c; next = next }, samples)
   unfolding fills_of
   fill_short zero t = refl
   fill_short (suc n) t = rw t

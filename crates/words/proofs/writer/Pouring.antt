@@ -7,7 +7,7 @@ use lib.Ieee.{Float, nan}
 use lib.ListN.{length, get_or}
 use Rattle.words.specs.Number.{to_word}
 use Rattle.words.specs.Writer.{put_of, if_stored, pours_of}
-use Rattle.words.specs.declared.writer.Stored.{Stored}
+use Rattle.std.specs.Prelude.{Option}
 
 module _ (bytes : List ℕ) (at : ℕ) (samples : List Float) (next : ℕ) where
   pub pour_done : length samples ≤ next → pours_of (length samples - next) bytes at samples next ≡ (record { at = at; next = next }, bytes)
@@ -16,7 +16,7 @@ module _ (bytes : List ℕ) (at : ℕ) (samples : List Float) (next : ℕ) where
       let n : length samples - next ≡ 0 = omega arith in
       rw n
 
-  pub pour_one : next < length samples → (w : ℕ) → w ≡ to_word (get_or samples next nan) → (r : Stored) (after : List ℕ) → (r, after) ≡ put_of bytes at w
+  pub pour_one : next < length samples → (w : ℕ) → w ≡ to_word (get_or samples next nan) → (r : Option ℕ) (after : List ℕ) → (r, after) ≡ put_of bytes at w
       → if_stored r (λ to. pours_of (length samples - (next + 1)) after to samples (next + 1)) (record { at = at; next = next }, after)
       ≡ pours_of (length samples - next) bytes at samples next
   unfolding pours_of

@@ -1,16 +1,16 @@
--- A word's bytes, put one by one: a turn of the loop that puts them. Assumes nothing.
-use mathlib.Core.Path.{◌≡◌}
-use mathlib.Core.List.{List}
-use Prim.Native.Nat.{ℕ, suc, ◌+◌, ◌-◌, ◌/◌, ◌%◌, ◌<◌}
-use native.Mathlib.Nat.{add-suc}
-use native.Mathlib.Numerals.{add-one}
-use native.Mathlib.Omega.{arith}
-use lib.ListN.{set}
-use lib.Seq.{sets}
+-- A word that is put as eight bytes, the lowest first. Assumes nothing.
+use Rattle.std.proofs.Common.{◌≡◌, ℕ, ◌+◌, ◌-◌, ◌≤◌, List, length, arith}
+use Rattle.std.proofs.lemmas.List.{append_assoc, drop-drop}
+use Rattle.std.proofs.lemmas.List.Edits.{sets, sets-eq}
+use Rattle.std.specs.Int.{w64, to_le_bytes}
+use borrow.Rule.Slice.PartMut.{put_mid}
 use Rattle.words.specs.Word.{bytes_of}
 
-pub put_more : (bytes : List ℕ) (at i rest b : ℕ) → i < 8 → b ≡ rest % 256
-    → sets (set bytes (at + i) b) (at + (i + 1)) (bytes_of (8 - (i + 1)) (rest / 256)) ≡ sets bytes (at + i) (bytes_of (8 - i) rest)
-put_more bytes at i rest b h e =
-    let n : 8 - i ≡ suc (8 - (i + 1)) = omega arith in
-    rw (n, e, add-one, add-suc)
+pub low_first : (word : ℕ) → to_le_bytes w64 word ≡ bytes_of 8 word
+low_first word = grind arith
+
+-- eight bytes that took the place of those from `at` on
+pub put_there : (bytes vs new : List ℕ) (at : ℕ) → at + 8 ≤ length bytes → length vs ≡ 8 → new ≡ vs → put_mid at (at + 8 - at) bytes new ≡ sets bytes at vs
+put_there bytes vs new at lies eight same =
+    let n : at + 8 - at ≡ 8 = omega arith in
+    rw (same, n, drop-drop, sets-eq vs bytes at (omega arith), eight, append_assoc)

@@ -1,25 +1,30 @@
--- `words::writer::put` meets its contract: the test is that of `put_of`, but that a sum which might wrap is a difference. Assumes nothing.
-use Prim.Native.Nat.{◌+◌}
-use native.Mathlib.Omega.{arith}
+-- `words::writer::put` meets its contract: it gives up where `put_of` tests that fewer than eight bytes are left. Assumes nothing.
+use Rattle.std.proofs.Common.{◌≡◌, ◌∙◌, refl, ap, ℕ, ◌+◌, ◌≤◌, List, length, Some, arith, rules}
 use borrow.Author.Tests.{le-leb, lt-leb}
-use lib.ListN.{length}
+use Rattle.words.specs.Word.{bytes_of}
 use Rattle.words.specs.Writer.{put_of}
+use Rattle.words.proofs.writer.Putting.{low_first, put_there}
 use Rattle.words.proofs.writer.put.Goals as goal
 
-pub returns-then-len-at : goal.returns-then-len-at
+pub returns-in_err-room : goal.returns-in_err-room
 unfolding put_of
-returns-then-len-at c =
+returns-in_err-room c =
     let a = c.args in
-    simp (lt-leb (a.at + 8) (length a.bytes.now) (omega arith))
+    let none = c.in_err-room.ensures in
+    rw (lt-leb (a.at + 8) (length a.bytes.now) (grind (arith, none))) (search rules)
 
-pub returns-then-len-at-lt8 : goal.returns-then-len-at-lt8
+pub returns-then-room-lt8 : goal.returns-then-room-lt8
 unfolding put_of
-returns-then-len-at-lt8 c =
+returns-then-room-lt8 c =
     let a = c.args in
+    let some = c.in_ok-room.ensures in
     simp (lt-leb (a.at + 8) (length a.bytes.now) (omega arith))
 
 pub returns : goal.returns
 unfolding put_of
 returns c =
     let a = c.args in
-    simp (le-leb (a.at + 8) (length a.bytes.now) (omega arith), c.put_at.ensures)
+    let some = c.in_ok-room.ensures in
+    let lies : a.at + 8 ≤ length a.bytes.now = omega arith in
+    let written : c.copy_from_slice.new.self ≡ bytes_of 8 a.word = c.copy_from_slice.ensures.after ∙ c.to_le_bytes.ensures ∙ low_first a.word in
+    rw (le-leb (a.at + 8) (length a.bytes.now) lies) (ap (λ (after : List ℕ). (Some (a.at + 8), after)) (put_there a.bytes.now _ _ a.at lies refl written))

@@ -13,4 +13,4 @@ returns-then-end-at c = simp (le-leb _ _ c.if-bytes-end.false, lt-leb _ _ c.if-e
 
 pub returns : goal.returns
 unfolding front_of
-returns c = simp (le-leb _ _ c.if-bytes-end.false, le-leb _ _ c.if-end-at.false, c.move_down.ensures)
+returns c = simp (le-leb _ _ c.if-bytes-end.false, le-leb _ _ c.if-end-at.false, c.copy_within.ensures.after)
