@@ -1,13 +1,13 @@
 -- Rings end to end: what check 4 tells of one stage, tests of the first n stages, and where a ring ends.
---     no_ring                  a stage that is no waveguide
 --     fine-at                  a ring that check 4 lets pass keeps its bound
+--     there-at                 a stage among those that are there
 --     all_none, all_more, all_at, all_fails     a test of the first n stages
 --     sum_step                 a ring ends where the next one begins, or before
 --     starts_at                where the list of all starts has a ring's
 --     Summed, summed_start, summed_more, rings_fit     loops that add up the rings' lengths
 --     part_put                 a part that was lent comes back in its place
 -- Assumes nothing.
-use Rattle.std.proofs.Common.{◌≡◌, ◌≢◌, ℕ, zero, suc, ◌+◌, ◌-◌, ◌*◌, ◌<◌, ◌≤◌, Bool, true, false, ◌&&◌, leb, List, ◌++◌, length, get_or, take, drop, sym, refl, ap, ◌∙◌, ap₂, ⊎_elim, append_assoc, le_of_suc-le-suc, le_antisymm, eq-or-lt_of_le, add-one, arith, leb-true}
+use Rattle.std.proofs.Common.{◌≡◌, get_or-take, ℕ, zero, suc, ◌+◌, ◌-◌, ◌*◌, ◌<◌, ◌≤◌, Bool, true, false, ◌&&◌, leb, List, ◌++◌, length, get_or, take, drop, sym, refl, ap, ◌∙◌, ap₂, ⊎_elim, append_assoc, le_of_suc-le-suc, le_antisymm, eq-or-lt_of_le, add-one, arith, leb-true}
 use mathlib.Core.Bool.{and-false}
 use lib.ListN.{get_or-append}
 use lib.Seq.{sets, sets-eq}
@@ -16,26 +16,14 @@ use borrow.Rule.Slice.PartMut.{put_mid, Post-is}
 use Rattle.answers.proofs.Tests.{and_left, and_right}
 use Rattle.magnetron.specs.Signals.{tab, window}
 use Rattle.magnetron.proofs.Windows.{tab-length, tab-at}
-use Rattle.magnetron.specs.declared.buffer.BufferIndex.{BufferIndex}
-use Rattle.microwave.specs.declared.waveguide.WaveguideSpec.{WaveguideSpec}
 use Rattle.stages.specs.declared.kind.Kind.{Kind}
 use Rattle.stages.specs.declared.kind.Kind.TheVariants.{Pass, Pow3, Clip, Filter, Oscillator, ModOscillator, Waveguide, RingModulator, Pan}
 use Rattle.stages.specs.declared.patch.Patch.{Patch}
+use Rattle.stages.specs.declared.stage.Stage.{Stage}
 use Rattle.stages.specs.declared.state.State.{State}
 use Rattle.stages.specs.Stage.{ring_len, ring_fine}
-use Rattle.stages.specs.Rings.{no_state, stage_in, len_in, ring_at, fine_in, sum_to, all_to, rings_ok}
+use Rattle.stages.specs.Rings.{no_stage, no_state, stage_in, len_in, ring_at, fine_in, sum_to, all_to, rings_ok}
 use Rattle.stages.specs.Inside.{starts_of}
-
-pub no_ring : (kind : Kind) (s : State) → ((a : BufferIndex) (g : WaveguideSpec) → kind ≢ Waveguide a g) → (0 ≡ ring_len kind) × (true ≡ ring_fine kind s)
-no_ring (Pass a) s h = (refl, refl)
-no_ring (Pow3 a) s h = (refl, refl)
-no_ring (Clip a limit) s h = (refl, refl)
-no_ring (Filter a f) s h = (refl, refl)
-no_ring (Oscillator o) s h = (refl, refl)
-no_ring (ModOscillator a o m) s h = (refl, refl)
-no_ring (Waveguide a g) s h = absurd (h a g refl)
-no_ring (RingModulator a b) s h = (refl, refl)
-no_ring (Pan a gain right) s h = (refl, refl)
 
 fine_len : (kind : Kind) (s : State) → ring_fine kind s ≡ true → ring_len kind ≤ 32768
 fine_len (Pass a) s e = omega arith
@@ -50,6 +38,12 @@ fine_len (Pan a gain right) s e = omega arith
 
 pub fine-at : (patch : Patch) (states : List State) (k : ℕ) → fine_in patch states k ≡ true → len_in patch k ≤ 32768
 fine-at patch states k e = fine_len (stage_in patch k).kind (get_or states k no_state) e
+
+-- a stage that is there, among those that are
+pub there-at : (patch : Patch) {l : List Stage} → l ≡ take patch.count patch.stages → length l ≡ patch.count → (k : ℕ) → k < length l → get_or l k no_stage ≡ stage_in patch k
+there-at patch {l} e n k h =
+    let below : k < patch.count = omega arith in
+    ap (λ (m : List Stage). get_or m k no_stage) e ∙ get_or-take patch.count patch.stages k no_stage below
 
 module _ (f : ℕ → Bool) where
   pub all_none : all_to 0 f ≡ true

@@ -7,7 +7,6 @@ use Rattle.microwave.specs.declared.parameter.Numbers.{Numbers}
 use Rattle.stages.specs.declared.kind.Kind.{Kind}
 use Rattle.stages.specs.declared.kind.Kind.TheVariants.{Pass, Pow3, Clip, Filter, Oscillator, ModOscillator, Waveguide, RingModulator, Pan}
 use Rattle.stages.specs.declared.window.RenderWindow.{RenderWindow}
-use Rattle.stages.specs.declared.reach.StageReach.{StageReach}
 use Rattle.stages.specs.declared.reach.Reaches.{Reaches}
 use Rattle.stages.specs.Stage.{guide_in}
 
@@ -27,8 +26,5 @@ reach_by (Pan a gain right) q window = Within
 abbrev pub last_reach : Kind → Numbers → RenderWindow → Reach
 last_reach kind q window = cond (window.buffer_len == 0) Within (reach_by kind q window)
 
-abbrev pub stage_reach : Reach → StageReach
-stage_reach r = record { reach = r }
-
 abbrev pub all_within : Reaches
-all_within = record { stages = replicate 32 (stage_reach Within) }
+all_within = record { stages = replicate 32 Within }

@@ -1,7 +1,7 @@
 -- What each kind of stage reads, asks for and remembers, what it works out at the start of a window, and what it does at each sample.
 -- This is the file to extend for another kind: the checks, the run and the order of stages know none.
 -- Definitions only. Assumes nothing.
-use Rattle.std.specs.Prelude.{ℕ, ◌+◌, Bool, true, ◌&&◌, List, [], ◌∷◌, replicate, pos, nat_le, nat_lt, Float}
+use Rattle.std.specs.Prelude.{ℕ, ◌+◌, Bool, true, ◌&&◌, List, [], ◌∷◌, replicate, pos, nat_le, nat_lt, Float, Option, None, Some}
 use Rattle.std.specs.Float.{binary64}
 use Rattle.std.specs.Float.Ieee.{mul, of_int}
 use Rattle.numbers.specs.Constants.{zero64}
@@ -30,8 +30,6 @@ use Rattle.microwave.specs.Waveguide.{Strung, strung, guide_of, string_next, str
 use Rattle.stages.specs.declared.kind.Kind.{Kind}
 use Rattle.stages.specs.declared.kind.Kind.TheVariants.{Pass, Pow3, Clip, Filter, Oscillator, ModOscillator, Waveguide, RingModulator, Pan}
 use Rattle.stages.specs.declared.kind.Side.{Side}
-use Rattle.stages.specs.declared.kind.Second.{Second}
-use Rattle.stages.specs.declared.kind.Second.TheVariants.{Nothing, Right}
 use Rattle.stages.specs.declared.stage.Stage.{Stage}
 use Rattle.stages.specs.declared.state.State.{State}
 use Rattle.stages.specs.declared.state.States.{States}
@@ -54,21 +52,21 @@ inputs_of (RingModulator a b) = a ∷ b ∷ []
 inputs_of (Pan a gain right) = a ∷ []
 
 -- the output that a kind has beside the stage's own: Pan's right one. The stage's own output and out_level are then the left ones.
-abbrev pub second_of : Kind → Second
-second_of (Pass a) = Nothing
-second_of (Pow3 a) = Nothing
-second_of (Clip a limit) = Nothing
-second_of (Filter a f) = Nothing
-second_of (Oscillator o) = Nothing
-second_of (ModOscillator a o m) = Nothing
-second_of (Waveguide a g) = Nothing
-second_of (RingModulator a b) = Nothing
-second_of (Pan a gain right) = Right right
+abbrev pub second_of : Kind → Option Side
+second_of (Pass a) = None
+second_of (Pow3 a) = None
+second_of (Clip a limit) = None
+second_of (Filter a f) = None
+second_of (Oscillator o) = None
+second_of (ModOscillator a o m) = None
+second_of (Waveguide a g) = None
+second_of (RingModulator a b) = None
+second_of (Pan a gain right) = Some right
 
 -- the buffers that a stage writes
-abbrev pub outputs_by : Second → BufferIndex → List BufferIndex
-outputs_by Nothing output = output ∷ []
-outputs_by (Right side) output = output ∷ side.output ∷ []
+abbrev pub outputs_by : Option Side → BufferIndex → List BufferIndex
+outputs_by None output = output ∷ []
+outputs_by (Some side) output = output ∷ side.output ∷ []
 
 abbrev pub outputs_of : Stage → List BufferIndex
 outputs_of stage = outputs_by (second_of stage.kind) stage.output
@@ -96,9 +94,9 @@ asks_of (RingModulator a b) = []
 asks_of (Pan a gain right) = pan_asks gain right
 
 -- and the levels of its outputs: "out_level, 1.0 if absent", or "an optional pair of out levels"
-abbrev pub levels_by : Second → Parameter → List Ask
-levels_by Nothing level = or_one level ∷ []
-levels_by (Right side) level = of_pair level side.out_level ∷ of_pair side.out_level level ∷ []
+abbrev pub levels_by : Option Side → Parameter → List Ask
+levels_by None level = or_one level ∷ []
+levels_by (Some side) level = of_pair level side.out_level ∷ of_pair side.out_level level ∷ []
 
 abbrev pub level_asks : Stage → List Ask
 level_asks stage = levels_by (second_of stage.kind) stage.out_level
@@ -186,9 +184,9 @@ settled (RingModulator a b) q window s = machine.Plain shape.RingModulator
 settled (Pan a gain right) q window s = machine.Gain q.first
 
 -- a machine to an output: "(s times left, s times right)"
-abbrev pub machines_by : Second → Machine → Numbers → List Machine
-machines_by Nothing m q = m ∷ []
-machines_by (Right side) m q = m ∷ machine.Gain q.second ∷ []
+abbrev pub machines_by : Option Side → Machine → Numbers → List Machine
+machines_by None m q = m ∷ []
+machines_by (Some side) m q = m ∷ machine.Gain q.second ∷ []
 
 abbrev pub with_phases : State → Phases → State
 with_phases s p = record { oscillator = p; one_pole = s.one_pole; biquad = s.biquad; waveguide = s.waveguide }

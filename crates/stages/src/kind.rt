@@ -1,6 +1,6 @@
 // The kinds of stage: the buffers that each reads, the parameters that it asks for, and its machine for a window.
 // Stage kinds by name in place of the Rust's boxed closures. Rests on the machines of microwave.
-ghost use Rattle.std.specs.Prelude.{◌≡◌};
+ghost use Rattle.std.specs.Prelude.{◌≡◌, [], ◌∷◌};
 ghost use Rattle.magnetron.specs.Buffers.{list_of};
 ghost use Rattle.microwave.specs.Filter.{with_numbers, machine_of};
 ghost use Rattle.microwave.specs.Parameter.{ask_list, numbers_of};
@@ -14,7 +14,7 @@ use magnetron::inputs::Inputs;
 use microwave::filter::{FilterMachine, FilterType};
 use microwave::oscillator::{Driven, Modulation, Oscillator, OscillatorSpec};
 use microwave::parameter::{
-    Asks, Numbers, Parameter, no_numbers, one_number, or_zero, required, three_numbers, two_numbers,
+    Ask, Asks, Numbers, Parameter, no_numbers, one_number, or_zero, required, three_numbers, two_numbers,
 };
 use microwave::plain::Shape;
 use microwave::waveguide::WaveguideSpec;
@@ -67,64 +67,30 @@ pub struct Side {
     pub gain: Parameter,
 }
 
-#[derive(Clone, Copy)]
-pub enum Second {
-    Nothing,
-    Right(Side),
-}
-
-fn oscillator_asks(o: OscillatorSpec) -> Asks
-    ensures { ask_list result ≡ oscillator_asks o }
+// What an oscillator asks for, in order.
+fn oscillator_asks(oscillator: OscillatorSpec) -> (Ask, Ask)
+    ensures { result.0 ∷ result.1 ∷ [] ≡ oscillator_asks oscillator }
 {
-    let frequency = o.frequency;
-    let phase = o.phase;
-    Asks::Two(required(frequency), or_zero(phase))
-}
-
-fn waveguide_asks(g: WaveguideSpec) -> Asks
-    ensures { ask_list result ≡ waveguide_asks g }
-{
-    let frequency = g.frequency;
-    let cutoff = g.cutoff;
-    let feedback = g.feedback;
-    Asks::Three(required(frequency), required(cutoff), required(feedback))
-}
-
-fn pan_asks(left_gain: Parameter, right: Side) -> Asks
-    ensures { ask_list result ≡ pan_asks left_gain right }
-{
-    let right_gain = right.gain;
-    Asks::Two(required(left_gain), required(right_gain))
-}
-
-fn oscillator_numbers(o: OscillatorSpec, values: &[f64], seconds: f64) -> Numbers
-    ensures { result ≡ numbers_of (oscillator_asks o) values.now seconds }
-{
-    let frequency = o.frequency;
-    let phase = o.phase;
-    two_numbers(required(frequency), or_zero(phase), values, seconds)
-}
-
-fn waveguide_numbers(g: WaveguideSpec, values: &[f64], seconds: f64) -> Numbers
-    ensures { result ≡ numbers_of (waveguide_asks g) values.now seconds }
-{
-    let frequency = g.frequency;
-    let cutoff = g.cutoff;
-    let feedback = g.feedback;
-    three_numbers(
-        required(frequency),
-        required(cutoff),
-        required(feedback),
-        values,
-        seconds,
+    (
+        required(oscillator.frequency),
+        or_zero(oscillator.phase),
     )
 }
 
-fn pan_numbers(left_gain: Parameter, right: Side, values: &[f64], seconds: f64) -> Numbers
-    ensures { result ≡ numbers_of (pan_asks left_gain right) values.now seconds }
+fn waveguide_asks(waveguide: WaveguideSpec) -> (Ask, Ask, Ask)
+    ensures { result.0 ∷ result.1 ∷ result.2 ∷ [] ≡ waveguide_asks waveguide }
 {
-    let right_gain = right.gain;
-    two_numbers(required(left_gain), required(right_gain), values, seconds)
+    (
+        required(waveguide.frequency),
+        required(waveguide.cutoff),
+        required(waveguide.feedback),
+    )
+}
+
+fn pan_asks(left_gain: Parameter, right: Side) -> (Ask, Ask)
+    ensures { result.0 ∷ result.1 ∷ [] ≡ pan_asks left_gain right }
+{
+    (required(left_gain), required(right.gain))
 }
 
 fn filter_machine(filter: FilterType, numbers: Numbers, window: RenderWindow) -> Machine
@@ -148,7 +114,6 @@ fn oscillator_machine(
 ) -> Machine
     ensures { result ≡ oscillator_machine oscillator driven numbers window state }
 {
-    let oscillator_type = oscillator.oscillator_type;
     let d_phase = microwave::oscillator::d_phase(
         numbers.first,
         numbers.second,
@@ -157,7 +122,7 @@ fn oscillator_machine(
         window.buffer_len,
     );
     Machine::Oscillator(Oscillator {
-        oscillator_type,
+        oscillator_type: oscillator.oscillator_type,
         driven,
         d_phase,
         sample_width: window.sample_width_secs,
@@ -167,9 +132,8 @@ fn oscillator_machine(
 fn waveguide_machine(waveguide: WaveguideSpec, numbers: Numbers, window: RenderWindow) -> Machine
     ensures { result ≡ waveguide_machine waveguide numbers window }
 {
-    let reflectance = waveguide.reflectance;
     Machine::Waveguide(microwave::waveguide::guide_of(
-        reflectance,
+        waveguide.reflectance,
         waveguide.buffer_size,
         numbers.first,
         numbers.second,
@@ -184,26 +148,26 @@ impl Kind {
         ensures { list_of result ≡ inputs_of self }
     {
         match self {
-            Kind::Pass { input } => Inputs::One(input),
-            Kind::Pow3 { input } => Inputs::One(input),
-            Kind::Clip { input, .. } => Inputs::One(input),
-            Kind::Filter { input, .. } => Inputs::One(input),
             Kind::Oscillator { .. } => Inputs::Nothing,
-            Kind::ModOscillator { input, .. } => Inputs::One(input),
-            Kind::Waveguide { input, .. } => Inputs::One(input),
+            Kind::Pass { input }
+            | Kind::Pow3 { input }
+            | Kind::Clip { input, .. }
+            | Kind::Filter { input, .. }
+            | Kind::ModOscillator { input, .. }
+            | Kind::Waveguide { input, .. }
+            | Kind::Pan { input, .. } => Inputs::One(input),
             Kind::RingModulator { first, second } => Inputs::Two(first, second),
-            Kind::Pan { input, .. } => Inputs::One(input),
         }
     }
 
     // The output that a stage has beside its own.
-    pub fn second(self) -> Second
+    pub fn second(self) -> Option<Side>
         ensures { result ≡ second_of self }
     {
         let Kind::Pan { right, .. } = self else {
-            return Second::Nothing;
+            return None;
         };
-        Second::Right(right)
+        Some(right)
     }
 
     // The parameters that a stage asks for beside its levels.
@@ -211,19 +175,25 @@ impl Kind {
         ensures { ask_list result ≡ asks_of self }
     {
         match self {
-            Kind::Pass { .. } => Asks::Nothing,
-            Kind::Pow3 { .. } => Asks::Nothing,
+            Kind::Pass { .. } | Kind::Pow3 { .. } | Kind::RingModulator { .. } => Asks::Nothing,
             Kind::Clip { limit, .. } => Asks::One(required(limit)),
             Kind::Filter { filter, .. } => filter.asks(),
-            Kind::Oscillator { oscillator } => oscillator_asks(oscillator),
-            Kind::ModOscillator { oscillator, .. } => oscillator_asks(oscillator),
-            Kind::Waveguide { waveguide, .. } => waveguide_asks(waveguide),
-            Kind::RingModulator { .. } => Asks::Nothing,
+            Kind::Oscillator { oscillator } | Kind::ModOscillator { oscillator, .. } => {
+                let (frequency, phase) = oscillator_asks(oscillator);
+                Asks::Two(frequency, phase)
+            }
+            Kind::Waveguide { waveguide, .. } => {
+                let (frequency, cutoff, feedback) = waveguide_asks(waveguide);
+                Asks::Three(frequency, cutoff, feedback)
+            }
             Kind::Pan {
                 left_gain,
                 right,
                 ..
-            } => pan_asks(left_gain, right),
+            } => {
+                let (left, right) = pan_asks(left_gain, right);
+                Asks::Two(left, right)
+            }
         }
     }
 
@@ -232,21 +202,25 @@ impl Kind {
         ensures { result ≡ numbers_of (asks_of self) values.now seconds }
     {
         match self {
-            Kind::Pass { .. } => no_numbers(),
-            Kind::Pow3 { .. } => no_numbers(),
+            Kind::Pass { .. } | Kind::Pow3 { .. } | Kind::RingModulator { .. } => no_numbers(),
             Kind::Clip { limit, .. } => one_number(required(limit), values, seconds),
             Kind::Filter { filter, .. } => filter.numbers(values, seconds),
-            Kind::Oscillator { oscillator } => oscillator_numbers(oscillator, values, seconds),
-            Kind::ModOscillator { oscillator, .. } => {
-                oscillator_numbers(oscillator, values, seconds)
+            Kind::Oscillator { oscillator } | Kind::ModOscillator { oscillator, .. } => {
+                let (frequency, phase) = oscillator_asks(oscillator);
+                two_numbers(frequency, phase, values, seconds)
             }
-            Kind::Waveguide { waveguide, .. } => waveguide_numbers(waveguide, values, seconds),
-            Kind::RingModulator { .. } => no_numbers(),
+            Kind::Waveguide { waveguide, .. } => {
+                let (frequency, cutoff, feedback) = waveguide_asks(waveguide);
+                three_numbers(frequency, cutoff, feedback, values, seconds)
+            }
             Kind::Pan {
                 left_gain,
                 right,
                 ..
-            } => pan_numbers(left_gain, right, values, seconds),
+            } => {
+                let (left, right) = pan_asks(left_gain, right);
+                two_numbers(left, right, values, seconds)
+            }
         }
     }
 
@@ -280,15 +254,14 @@ impl Kind {
         ensures { result ≡ entered self numbers state }
     {
         match self {
-            Kind::Pass { .. } => state,
-            Kind::Pow3 { .. } => state,
-            Kind::Clip { .. } => state,
-            Kind::Filter { .. } => state,
-            Kind::Oscillator { .. } => state.saving(numbers),
-            Kind::ModOscillator { .. } => state.saving(numbers),
-            Kind::Waveguide { .. } => state,
-            Kind::RingModulator { .. } => state,
-            Kind::Pan { .. } => state,
+            Kind::Oscillator { .. } | Kind::ModOscillator { .. } => state.saving(numbers),
+            Kind::Pass { .. }
+            | Kind::Pow3 { .. }
+            | Kind::Clip { .. }
+            | Kind::Filter { .. }
+            | Kind::Waveguide { .. }
+            | Kind::RingModulator { .. }
+            | Kind::Pan { .. } => state,
         }
     }
 }

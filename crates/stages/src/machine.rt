@@ -55,40 +55,35 @@ impl Machine {
         ensures { Stepped self (owned state ring.old) (hearing inputs own.old other.now) own.old target
             (owned result ring.new) own.new }
     {
-        let first = inputs.first;
-        let second = inputs.second;
+        let Sources { first, second } = inputs;
         match self {
             Machine::Plain(shape) => {
                 plain_window(shape, own, other, first, second, target);
-                return state;
+                state
             }
             Machine::Oscillator(oscillator) => {
-                let phases = state.oscillator;
-                let next = oscillator_window(oscillator, phases, own, other, first, target);
-                state.oscillator = next;
-                return state;
+                state.oscillator =
+                    oscillator_window(oscillator, state.oscillator, own, other, first, target);
+                state
             }
             Machine::OnePole(one_pole) => {
-                let memory = state.one_pole;
-                let next = one_pole_window(one_pole, memory, own, other, first, target);
-                state.one_pole = next;
-                return state;
+                state.one_pole =
+                    one_pole_window(one_pole, state.one_pole, own, other, first, target);
+                state
             }
             Machine::Biquad(coefficients) => {
-                let memory = state.biquad;
-                let next = biquad_window(coefficients, memory, own, other, first, target);
-                state.biquad = next;
-                return state;
+                state.biquad =
+                    biquad_window(coefficients, state.biquad, own, other, first, target);
+                state
             }
             Machine::Waveguide(guide) => {
-                let memory = state.waveguide;
-                let next = string_window(guide, memory, ring, own, other, first, target);
-                state.waveguide = next;
-                return state;
+                state.waveguide =
+                    string_window(guide, state.waveguide, ring, own, other, first, target);
+                state
             }
             Machine::Gain(gain) => {
                 gain_window(gain, own, other, first, target);
-                return state;
+                state
             }
         }
     }
@@ -103,8 +98,7 @@ impl Machine {
         let Machine::Waveguide(guide) = self else {
             return Reach::Within;
         };
-        let delay = guide.delay;
-        delay.reach
+        guide.delay.reach
     }
 
     // One sample, given one of each input; `ring` is the stage's ring. For an engine that goes from sample to sample.

@@ -1,5 +1,5 @@
 // A patch, and its rings: they lie end to end in stage-number order in one lent slice. Where each begins, and check 4.
-ghost use Rattle.std.specs.Prelude.{◌≡◌, ◌≤◌};
+ghost use Rattle.std.specs.Prelude.{◌≡◌, ◌≤◌, length, take};
 ghost use Rattle.stages.specs.Rings.{rings_ok};
 ghost use Rattle.stages.specs.Inside.{Bounded, starts_of};
 
@@ -20,21 +20,26 @@ pub struct Starts {
 }
 
 impl Patch {
+    // The stages that are there.
+    fn there(&self) -> &[Stage]
+        requires { self.now.count ≤ 32 }
+        ensures stages { result.now ≡ take self.now.count self.now.stages }
+        ensures count { length result.now ≡ self.now.count }
+    {
+        &self.stages[..self.count]
+    }
+
     // Check 4: every ring of the patch, and room for all of them.
     pub fn rings_ok(self, states: States, room: usize) -> bool
         requires { self.count ≤ 32 }
         ensures { result ≡ rings_ok self states.stages room }
     {
-        let count = self.count;
         let mut end = 0;
-        let mut k = 0;
-        while k < count {
-            let stage = self.stages[k];
+        for (k, stage) in self.there().iter().enumerate() {
             if !stage.ring_fine(states.stages[k]) {
                 return false;
             }
             end += stage.ring_len();
-            k += 1;
         }
         end <= room
     }
@@ -44,15 +49,11 @@ impl Patch {
         requires { Bounded self }
         ensures { result ≡ starts_of self }
     {
-        let count = self.count;
         let mut at = [0; 32];
         let mut end = 0;
-        let mut k = 0;
-        while k < count {
-            let stage = self.stages[k];
+        for (k, stage) in self.there().iter().enumerate() {
             at[k] = end;
             end += stage.ring_len();
-            k += 1;
         }
         Starts { at }
     }

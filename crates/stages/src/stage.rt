@@ -4,7 +4,7 @@ ghost use Rattle.magnetron.specs.Buffers.{written_by};
 ghost use Rattle.microwave.specs.Parameter.{ask_list};
 ghost use Rattle.stages.specs.Stage.{outputs_of, level_asks, ring_len, ring_fine};
 
-use crate::kind::{Kind, Second};
+use crate::kind::Kind;
 use crate::state::State;
 use magnetron::buffer::BufferIndex;
 use magnetron::outputs::Outputs;
@@ -22,34 +22,30 @@ impl Stage {
     pub fn outputs(self) -> Outputs
         ensures { written_by result ≡ outputs_of self }
     {
-        let output = self.output;
-        let kind = self.kind;
-        let Second::Right(side) = kind.second() else {
-            return Outputs::One(output);
-        };
-        let right = side.output;
-        Outputs::Two(output, right)
+        match self.kind.second() {
+            None => Outputs::One(self.output),
+            Some(side) => Outputs::Two(self.output, side.output),
+        }
     }
 
     // What the levels of its outputs are asked for.
     pub fn level_asks(self) -> Asks
         ensures { ask_list result ≡ level_asks self }
     {
-        let level = self.out_level;
-        let kind = self.kind;
-        let Second::Right(side) = kind.second() else {
-            return Asks::One(or_one(level));
-        };
-        let right = side.out_level;
-        Asks::Two(of_pair(level, right), of_pair(right, level))
+        match self.kind.second() {
+            None => Asks::One(or_one(self.out_level)),
+            Some(side) => Asks::Two(
+                of_pair(self.out_level, side.out_level),
+                of_pair(side.out_level, self.out_level),
+            ),
+        }
     }
 
     // Check 4 of one stage.
     pub(crate) fn ring_fine(self, state: State) -> bool
         ensures { result ≡ ring_fine self.kind state }
     {
-        let kind = self.kind;
-        let Kind::Waveguide { waveguide, .. } = kind else {
+        let Kind::Waveguide { waveguide, .. } = self.kind else {
             return true;
         };
         if 32767 < waveguide.buffer_size {
@@ -63,8 +59,7 @@ impl Stage {
         requires { ring_len self.kind ≤ 32768 }
         ensures { result ≡ ring_len self.kind }
     {
-        let kind = self.kind;
-        let Kind::Waveguide { waveguide, .. } = kind else {
+        let Kind::Waveguide { waveguide, .. } = self.kind else {
             return 0;
         };
         waveguide.buffer_size + 1

@@ -53,9 +53,8 @@ pub fn new_state() -> State
 pub fn new_states() -> States
     ensures { result ≡ new_states }
 {
-    let state = new_state();
     States {
-        stages: [state; 32],
+        stages: [new_state(); 32],
     }
 }
 
@@ -64,9 +63,7 @@ impl State {
     pub(crate) fn saving(mut self, numbers: Numbers) -> State
         ensures { result ≡ saved numbers self }
     {
-        let phases = self.oscillator;
-        let next = phases.enter(numbers.second);
-        self.oscillator = next;
+        self.oscillator = self.oscillator.enter(numbers.second);
         self
     }
 }

@@ -1,12 +1,9 @@
 -- `stages::patch::Patch::ring_starts` meets its contract: each start is the sum of the lengths before it. Assumes nothing.
-use Rattle.std.proofs.Common.{◌≡◌, ◌-◌, replicate}
+use Rattle.std.proofs.Common.{◌≡◌, replicate}
 use Rattle.magnetron.specs.Signals.{window}
 use Rattle.stages.specs.Rings.{len_in, ring_at}
 use Rattle.stages.proofs.EndToEnd.{Summed}
 use Rattle.stages.proofs.patch.Patch.ring_starts.Given as goal
 
 abbrev pub invariant-loop-k : goal.invariant-loop-k
-invariant-loop-k l = (Summed (len_in l.self) l.count l.k l.end) × (l.at ≡ window (replicate 32 0) 0 l.k (ring_at l.self))
-
-abbrev pub decreases-loop-k : goal.decreases-loop-k
-decreases-loop-k l = l.count - l.k
+invariant-loop-k l = (Summed (len_in l.fn.self) l.fn.self.count l.k l.end) × (l.at ≡ window (replicate 32 0) 0 l.k (ring_at l.fn.self))

@@ -1,2 +1,0 @@
--- Laws that the proofs of `stages::kind` alone cite.
-mod Lone

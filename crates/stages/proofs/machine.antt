@@ -1,2 +1,0 @@
--- Laws that the proofs of `stages::machine` alone cite.
-mod Ringless
