@@ -1,6 +1,6 @@
 // The kinds of stage: the buffers that each reads, the parameters that it asks for, and its machine for a window.
 // Stage kinds by name in place of the Rust's boxed closures. Rests on the machines of microwave.
-ghost use Rattle.std.specs.Prelude.{◌≡◌, [], ◌∷◌};
+ghost use Rattle.std.specs.Prelude.{◌≡◌};
 ghost use Rattle.magnetron.specs.Buffers.{list_of};
 ghost use Rattle.microwave.specs.Filter.{with_numbers, machine_of};
 ghost use Rattle.microwave.specs.Parameter.{ask_list, numbers_of};
@@ -13,9 +13,7 @@ use magnetron::buffer::BufferIndex;
 use magnetron::inputs::Inputs;
 use microwave::filter::{FilterMachine, FilterType};
 use microwave::oscillator::{Driven, Modulation, Oscillator, OscillatorSpec};
-use microwave::parameter::{
-    Ask, Asks, Numbers, Parameter, no_numbers, one_number, or_zero, required, three_numbers, two_numbers,
-};
+use microwave::parameter::{Ask, Asks, Numbers, Parameter, numbers_found, or_zero, required};
 use microwave::plain::Shape;
 use microwave::waveguide::WaveguideSpec;
 
@@ -67,30 +65,26 @@ pub struct Side {
     pub gain: Parameter,
 }
 
-// What an oscillator asks for, in order.
-fn oscillator_asks(oscillator: OscillatorSpec) -> (Ask, Ask)
-    ensures { result.0 ∷ result.1 ∷ [] ≡ oscillator_asks oscillator }
+fn oscillator_asks(oscillator: OscillatorSpec) -> [Ask; 2]
+    ensures { result ≡ oscillator_asks oscillator }
 {
-    (
-        required(oscillator.frequency),
-        or_zero(oscillator.phase),
-    )
+    [required(oscillator.frequency), or_zero(oscillator.phase)]
 }
 
-fn waveguide_asks(waveguide: WaveguideSpec) -> (Ask, Ask, Ask)
-    ensures { result.0 ∷ result.1 ∷ result.2 ∷ [] ≡ waveguide_asks waveguide }
+fn waveguide_asks(waveguide: WaveguideSpec) -> [Ask; 3]
+    ensures { result ≡ waveguide_asks waveguide }
 {
-    (
+    [
         required(waveguide.frequency),
         required(waveguide.cutoff),
         required(waveguide.feedback),
-    )
+    ]
 }
 
-fn pan_asks(left_gain: Parameter, right: Side) -> (Ask, Ask)
-    ensures { result.0 ∷ result.1 ∷ [] ≡ pan_asks left_gain right }
+fn pan_asks(left_gain: Parameter, right: Side) -> [Ask; 2]
+    ensures { result ≡ pan_asks left_gain right }
 {
-    (required(left_gain), required(right.gain))
+    [required(left_gain), required(right.gain)]
 }
 
 fn filter_machine(filter: FilterType, numbers: Numbers, window: RenderWindow) -> Machine
@@ -179,11 +173,11 @@ impl Kind {
             Kind::Clip { limit, .. } => Asks::One(required(limit)),
             Kind::Filter { filter, .. } => filter.asks(),
             Kind::Oscillator { oscillator } | Kind::ModOscillator { oscillator, .. } => {
-                let (frequency, phase) = oscillator_asks(oscillator);
+                let [frequency, phase] = oscillator_asks(oscillator);
                 Asks::Two(frequency, phase)
             }
             Kind::Waveguide { waveguide, .. } => {
-                let (frequency, cutoff, feedback) = waveguide_asks(waveguide);
+                let [frequency, cutoff, feedback] = waveguide_asks(waveguide);
                 Asks::Three(frequency, cutoff, feedback)
             }
             Kind::Pan {
@@ -191,7 +185,7 @@ impl Kind {
                 right,
                 ..
             } => {
-                let (left, right) = pan_asks(left_gain, right);
+                let [left, right] = pan_asks(left_gain, right);
                 Asks::Two(left, right)
             }
         }
@@ -202,25 +196,22 @@ impl Kind {
         ensures { result ≡ numbers_of (asks_of self) values.now seconds }
     {
         match self {
-            Kind::Pass { .. } | Kind::Pow3 { .. } | Kind::RingModulator { .. } => no_numbers(),
-            Kind::Clip { limit, .. } => one_number(required(limit), values, seconds),
+            Kind::Pass { .. } | Kind::Pow3 { .. } | Kind::RingModulator { .. } => {
+                numbers_found([], values, seconds)
+            }
+            Kind::Clip { limit, .. } => numbers_found([required(limit)], values, seconds),
             Kind::Filter { filter, .. } => filter.numbers(values, seconds),
             Kind::Oscillator { oscillator } | Kind::ModOscillator { oscillator, .. } => {
-                let (frequency, phase) = oscillator_asks(oscillator);
-                two_numbers(frequency, phase, values, seconds)
+                numbers_found(oscillator_asks(oscillator), values, seconds)
             }
             Kind::Waveguide { waveguide, .. } => {
-                let (frequency, cutoff, feedback) = waveguide_asks(waveguide);
-                three_numbers(frequency, cutoff, feedback, values, seconds)
+                numbers_found(waveguide_asks(waveguide), values, seconds)
             }
             Kind::Pan {
                 left_gain,
                 right,
                 ..
-            } => {
-                let (left, right) = pan_asks(left_gain, right);
-                two_numbers(left, right, values, seconds)
-            }
+            } => numbers_found(pan_asks(left_gain, right), values, seconds),
         }
     }
 

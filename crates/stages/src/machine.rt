@@ -62,23 +62,41 @@ impl Machine {
                 state
             }
             Machine::Oscillator(oscillator) => {
-                state.oscillator =
-                    oscillator_window(oscillator, state.oscillator, own, other, first, target);
+                state.oscillator = oscillator_window(
+                    oscillator,
+                    state.oscillator,
+                    own,
+                    other,
+                    first,
+                    target,
+                );
                 state
             }
             Machine::OnePole(one_pole) => {
-                state.one_pole =
-                    one_pole_window(one_pole, state.one_pole, own, other, first, target);
+                state.one_pole = one_pole_window(
+                    one_pole,
+                    state.one_pole,
+                    own,
+                    other,
+                    first,
+                    target,
+                );
                 state
             }
             Machine::Biquad(coefficients) => {
-                state.biquad =
-                    biquad_window(coefficients, state.biquad, own, other, first, target);
+                state.biquad = biquad_window(coefficients, state.biquad, own, other, first, target);
                 state
             }
             Machine::Waveguide(guide) => {
-                state.waveguide =
-                    string_window(guide, state.waveguide, ring, own, other, first, target);
+                state.waveguide = string_window(
+                    guide,
+                    state.waveguide,
+                    ring,
+                    own,
+                    other,
+                    first,
+                    target,
+                );
                 state
             }
             Machine::Gain(gain) => {
