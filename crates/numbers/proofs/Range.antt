@@ -4,8 +4,10 @@
 --     cast_low, cast_high    the cast of x up to 2 ^ 53 is in range
 --     part_le, cast_is       it gives the whole part, which is at most n
 --     BelowOne, below_one    x is -0.0, or m * 2 ^ e below 1; from the tests `0.0 <= x` and `x < 1.0`
+--     both_tests             a choice by two tests, one within the other, is one by both
+--     contains_is            `(low..=high).contains(&x)` is `low <= x && x <= high`
 -- Assumes nothing.
-use Rattle.std.proofs.Common.{◌≡◌, ℕ, zero, suc, ◌+◌, ◌*◌, ◌/◌, ◌^◌, ◌<◌, ◌≤◌, true, false, ◌&&◌, T, ℤ, pos, sym, refl, ◌∙◌, le_trans, mul-le-mul_right, one-mul, zero-mul, div-mul-le_self, le_of_mul-le-mul_right, arith, lt→ltb, ltb-true, ne_eqb, leb-true}
+use Rattle.std.proofs.Common.{◌≡◌, ℕ, zero, suc, ◌+◌, ◌*◌, ◌/◌, ◌^◌, ◌<◌, ◌≤◌, Bool, true, false, ◌&&◌, ◌||◌, cond, Some, None, T, ℤ, pos, sym, refl, ◌∙◌, le_trans, mul-le-mul_right, one-mul, zero-mul, div-mul-le_self, le_of_mul-le-mul_right, arith, lt→ltb, ltb-true, ne_eqb, leb-true}
 use mathlib.Core.Bool.{and-eq-true_iff}
 use native.Mathlib.Nat.{min-eq_left}
 use lib.Ieee.{Float, nan, inf, fin, of_bits, to_unsigned, eq, lt, le, up, down}
@@ -13,6 +15,27 @@ use lib.Ieee.Fits.{down_pos}
 use lib.Ieee.Exact.{HasValue}
 use Rattle.numbers.specs.Constants.{zero64, one64, limit64}
 use Rattle.numbers.proofs.Compare.{falsehood, size_pos, whole_le}
+use Rattle.std.specs.Ordering.{float_partial_cmp, is_some_and, is_le, partial_le, partial_lt}
+use Rattle.std.specs.declared.cmp.Ordering.TheVariants.{Less, Equal, Greater}
+
+pub both_tests : {A : Type 0} (a b : Bool) (x y : A) → cond a (cond b x y) y ≡ cond (a && b) x y
+both_tests true b x y = refl
+both_tests false b x y = refl
+
+by_tests : (a b c : Bool) → is_some_and is_le (cond a (Some Less) (cond b (Some Equal) (cond c (Some Greater) None))) ≡ (a || b)
+by_tests true b c = refl
+by_tests false true c = refl
+by_tests false false true = refl
+by_tests false false false = refl
+
+order_le : (x y : Float) → partial_le float_partial_cmp x y ≡ le x y
+unfolding le
+order_le x y = by_tests (lt x y) (eq x y) (lt y x)
+
+-- what `contains` tells, where the range made has these ends and is not spent
+pub contains_is : (low high x first last : Float) (spent b : Bool) → first ≡ low → last ≡ high → spent ≡ false
+    → b ≡ (partial_le float_partial_cmp first x && cond spent (partial_lt float_partial_cmp x last) (partial_le float_partial_cmp x last)) → (le low x && le x high) ≡ b
+contains_is low high x first last spent b from to fresh told = rw (told, from, to, fresh, order_le low x, order_le x high)
 
 pub data Within (n : ℕ) : Float → Type 0 where
   minus_zero : (e : ℤ) → Within n (fin true 0 e)

@@ -2,6 +2,9 @@
 ghost use Rattle.std.specs.Prelude.{◌≡◌};
 ghost use Rattle.numbers.specs.Ceil.{up_of, rounded_up_of};
 
+use crate::small::LIMIT;
+use std::num::{nearest_u64_to_f64, truncating_f64_to_u64};
+
 // A number rounded up, and the gap from the number up to it.
 #[derive(Clone, Copy)]
 pub struct Up {
@@ -13,16 +16,15 @@ pub struct Up {
 pub fn round_up(x: f64) -> u64
     ensures { result ≡ up_of x }
 {
-    if x >= 0.0 {
-        if x <= crate::small::LIMIT {
-            let whole = std::num::truncating_f64_to_u64(x);
-            if std::num::nearest_u64_to_f64(whole) < x {
-                return whole + 1;
-            }
-            return whole;
-        }
+    if !(0.0..=LIMIT).contains(&x) {
+        return 0;
     }
-    0
+    let whole = truncating_f64_to_u64(x);
+    if nearest_u64_to_f64(whole) < x {
+        whole + 1
+    } else {
+        whole
+    }
 }
 
 // x rounded up, with the gap; for an x that `round_up` takes for 0, the gap is 0 - x.
@@ -32,6 +34,6 @@ pub fn rounded_up(x: f64) -> Up
     let whole = round_up(x);
     Up {
         whole,
-        gap: std::num::nearest_u64_to_f64(whole) - x,
+        gap: nearest_u64_to_f64(whole) - x,
     }
 }

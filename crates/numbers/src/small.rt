@@ -5,6 +5,8 @@ ghost use Rattle.std.specs.Float.Ieee.{rem, lt, le};
 ghost use Rattle.numbers.specs.Constants.{one64};
 ghost use Rattle.numbers.specs.Small.{max_of, min_of, held_of, negative, abs_of, copysign_of, recip_of, whole_of, fract_of, rem_euclid_of};
 
+use std::num::{nearest_u64_to_f64, truncating_f64_to_u64};
+
 // 2^53, up to which an f64 holds every whole number, and from which on it holds nothing else.
 pub const LIMIT: f64 = 9007199254740992.0;
 
@@ -12,20 +14,14 @@ pub const LIMIT: f64 = 9007199254740992.0;
 pub fn maximum(x: f64, y: f64) -> f64
     ensures { result ≡ max_of x y }
 {
-    if x != x {
-        return y;
-    }
-    if x < y { y } else { x }
+    if x.is_nan() || x < y { y } else { x }
 }
 
 // If one is NaN, the other; if equal, the first.
 pub fn minimum(x: f64, y: f64) -> f64
     ensures { result ≡ min_of x y }
 {
-    if x != x {
-        return y;
-    }
-    if y < x { y } else { x }
+    if x.is_nan() || y < x { y } else { x }
 }
 
 // The maximum with a, then the minimum with b.
@@ -39,10 +35,7 @@ pub fn held(x: f64, a: f64, b: f64) -> f64
 pub fn is_negative(x: f64) -> bool
     ensures { result ≡ negative x }
 {
-    if x == 0.0 {
-        return 1.0 / x < 0.0;
-    }
-    x < 0.0
+    if x == 0.0 { 1.0 / x < 0.0 } else { x < 0.0 }
 }
 
 // The magnitude of x. Taken from 0.0, either zero leaves +0.0, and any other f64 its exact negative.
@@ -76,20 +69,18 @@ pub fn whole_part(x: f64) -> f64
 {
     let magnitude = absolute(x);
     if magnitude <= LIMIT {
-        let whole = std::num::truncating_f64_to_u64(magnitude);
-        return copysign(std::num::nearest_u64_to_f64(whole), x);
+        let whole = truncating_f64_to_u64(magnitude);
+        copysign(nearest_u64_to_f64(whole), x)
+    } else {
+        x
     }
-    x
 }
 
 // Whether x is from `low` on and below `end`. A NaN is not.
 fn is_from(x: f64, low: f64, end: f64) -> bool
     ensures { result ≡ (le low x && lt x end) }
 {
-    if x >= low {
-        return x < end;
-    }
-    false
+    x >= low && x < end
 }
 
 // x minus its whole part toward zero: +0.0 at each whole number, -0.0 and -3.0 among them. From 0 to below 2, where waves ask for it, no cast is needed.
@@ -97,12 +88,12 @@ pub fn fract(x: f64) -> f64
     ensures { result ≡ fract_of x }
 {
     if is_from(x, 0.0, 1.0) {
-        return x + 0.0;
+        x + 0.0
+    } else if is_from(x, 1.0, 2.0) {
+        x - 1.0
+    } else {
+        x - whole_part(x)
     }
-    if is_from(x, 1.0, 2.0) {
-        return x - 1.0;
-    }
-    x - whole_part(x)
 }
 
 // x % 1.0: x minus its whole part, with x's sign on a zero too. `%` itself would be a call of C's `fmod`.
@@ -124,8 +115,5 @@ fn wrapped(x: f64) -> f64
 pub fn rem_euclid_one(x: f64) -> f64
     ensures { result ≡ rem_euclid_of x }
 {
-    if is_from(x, 0.0, 1.0) {
-        return x;
-    }
-    wrapped(x)
+    if is_from(x, 0.0, 1.0) { x } else { wrapped(x) }
 }

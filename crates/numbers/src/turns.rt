@@ -2,6 +2,8 @@
 ghost use Rattle.std.specs.Prelude.{◌≡◌};
 ghost use Rattle.numbers.specs.Turns.{horner_of, sine_sum, cosine_sum, reduced, quarter_sine, sine_of, quarter_cosine, cosine_of};
 
+use std::f64::consts::TAU;
+
 // 1 over n factorial, rounded once, alternating in sign: odd n to 15.
 const SINE: [f64; 8] = [
     1.0,
@@ -27,23 +29,18 @@ const COSINE: [f64; 9] = [
     4.779477332387385e-14,
 ];
 
-const TAU: f64 = 6.283185307179586;
-
 // The sum of the coefficients times the powers of u, worked from the highest inward as c + u*(rest); 0.0 where there is none.
 pub fn horner(coefficients: &[f64], u: f64) -> f64
     ensures { result ≡ horner_of coefficients.now u }
 {
-    let n = coefficients.len();
-    if n == 0 {
+    let Some((highest, lower)) = coefficients.split_last() else {
         return 0.0;
-    }
-    let mut i = n - 1;
-    let mut sum = coefficients[i];
-    while 0 < i {
-        i -= 1;
-        sum = coefficients[i] + u * sum;
-    }
-    sum
+    };
+    lower
+        .iter()
+        .rev()
+        .copied()
+        .fold(*highest, |sum, c| c + u * sum)
 }
 
 // z times the sum of the sine's coefficients at z*z.
@@ -65,15 +62,14 @@ fn reduced_turn(x: f64) -> f64
     ensures { result ≡ reduced x }
 {
     if x < 0.25 {
-        return x;
+        x
+    } else if x < 0.5 {
+        0.5 - x
+    } else if x < 0.75 {
+        x - 0.5
+    } else {
+        1.0 - x
     }
-    if x < 0.5 {
-        return 0.5 - x;
-    }
-    if x < 0.75 {
-        return x - 0.5;
-    }
-    1.0 - x
 }
 
 // The sine of y turns, y in the first quarter: up to an eighth by the sine sum, past it by the cosine sum.
@@ -92,16 +88,11 @@ fn quarter_sine(y: f64) -> f64
 pub fn sine_turns(x: f64) -> f64
     ensures { result ≡ sine_of x }
 {
-    if x >= 0.0 {
-        if x <= 1.0 {
-            let s = quarter_sine(reduced_turn(x));
-            if x < 0.5 {
-                return s;
-            }
-            return 0.0 - s;
-        }
+    if !(0.0..=1.0).contains(&x) {
+        return f64::NAN;
     }
-    0.0 / 0.0
+    let s = quarter_sine(reduced_turn(x));
+    if x < 0.5 { s } else { 0.0 - s }
 }
 
 // The cosine of x turns, x in the first quarter: up to an eighth by the cosine sum, past it by the sine sum.
@@ -119,13 +110,12 @@ fn quarter_cosine(x: f64) -> f64
 pub fn cosine_turns(x: f64) -> f64
     ensures { result ≡ cosine_of x }
 {
-    if x >= 0.0 {
-        if x <= 0.5 {
-            if x <= 0.25 {
-                return quarter_cosine(x);
-            }
-            return -quarter_cosine(0.5 - x);
-        }
+    if !(0.0..=0.5).contains(&x) {
+        return f64::NAN;
     }
-    0.0 / 0.0
+    if x <= 0.25 {
+        quarter_cosine(x)
+    } else {
+        -quarter_cosine(0.5 - x)
+    }
 }

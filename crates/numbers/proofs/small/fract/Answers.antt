@@ -8,7 +8,4 @@ pub returns-then-is_from : goal.returns-then-is_from
 returns-then-is_from c = fract_first c.args.x (sym c.is_from.ensures ∙ c.if-is_from.true)
 
 pub returns-then-is_from-2 : goal.returns-then-is_from-2
-returns-then-is_from-2 c = fract_second c.args.x (sym c.is_from-2.ensures ∙ c.if-is_from-2.true)
-
-pub returns : goal.returns
-returns c = rw c.whole_part.ensures
+returns-then-is_from-2 c = fract_second c.args.x (sym c.is_from-else-is_from.ensures ∙ c.if-is_from-2.true)

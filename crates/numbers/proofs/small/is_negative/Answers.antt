@@ -6,5 +6,5 @@ use Rattle.numbers.proofs.small.is_negative.Goals as goal
 pub returns-then-x : goal.returns-then-x
 returns-then-x c = zero_sign _ c.if-x.true
 
-pub returns : goal.returns
-returns c = other_sign _ c.if-x.false
+pub returns-else-x : goal.returns-else-x
+returns-else-x c = other_sign _ c.if-x.false

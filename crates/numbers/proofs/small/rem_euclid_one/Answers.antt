@@ -7,6 +7,3 @@ use Rattle.numbers.proofs.small.rem_euclid_one.Goals as goal
 
 pub returns-then-is_from : goal.returns-then-is_from
 returns-then-is_from c = sym (rem_below _ (passes _ c.well_formed.0.1) (sym c.is_from.ensures ∙ c.if-is_from.true))
-
-pub returns : goal.returns
-returns c = c.wrapped.ensures

@@ -17,5 +17,5 @@ returns-then-magnitude c =
     rw (c.copysign.ensures, c.nearest_u64_to_f64.ensures, c.truncating_f64_to_u64-whole.ensures, magnitude)
     (small_whole _ (rw magnitude at c.if-magnitude.true))
 
-pub returns : goal.returns
-returns c = large_whole _ (passes _ c.well_formed.0.1) (rw c.absolute-magnitude.ensures at c.if-magnitude.false)
+pub returns-else-magnitude : goal.returns-else-magnitude
+returns-else-magnitude c = large_whole _ (passes _ c.well_formed.0.1) (rw c.absolute-magnitude.ensures at c.if-magnitude.false)

@@ -1,22 +1,28 @@
--- `numbers::turns::cosine_turns` meets its contract. The tests of the code are those of the definition. Two ways lead to the NaN, and meet there.
+-- `numbers::turns::cosine_turns` meets its contract. The tests of the code are those of the definition, the first two as one.
 -- Assumes nothing.
-use Rattle.std.proofs.Common.{◌≡◌, refl}
-use lib.Ieee.{nan, binary64, of_bits, div}
-use Rattle.numbers.specs.Constants.{zero64}
+use lib.Ieee.{of_bits}
+use Rattle.numbers.specs.Constants.{zero64, half64}
 use Rattle.numbers.specs.Turns.{cosine_of}
+use Rattle.numbers.proofs.Range.{both_tests, contains_is}
 use Rattle.numbers.proofs.turns.cosine_turns.Goals as goal
-use Rattle.numbers.proofs.turns.cosine_turns.Goals.{then-x+else-x-2, else-x}
 
-pub returns-then-x-3 : goal.returns-then-x-3
-unfolding cosine_of
-returns-then-x-3 c = simp (c.if-x.true, c.if-x-2.true, c.if-x-3.true, c.quarter_cosine.ensures)
+pub returns-then-not-contains : goal.returns-then-not-contains
+unfolding cosine_of of_bits
+returns-then-not-contains c =
+    let ends = c.new.ensures in
+    let within = contains_is zero64 half64 c.args.x _ _ _ _ ends.start ends.end ends.exhausted c.contains.ensures.value in
+    simp (both_tests, within, c.if-not-contains.true)
 
-pub returns-then-x-2 : goal.returns-then-x-2
+pub returns-then-x : goal.returns-then-x
 unfolding cosine_of
-returns-then-x-2 c = simp (c.if-x.true, c.if-x-2.true, c.if-x-3.false, c.quarter_cosine-then-x-2.ensures)
+returns-then-x c =
+    let ends = c.new.ensures in
+    let within = contains_is zero64 half64 c.args.x _ _ _ _ ends.start ends.end ends.exhausted c.contains.ensures.value in
+    simp (both_tests, within, c.if-not-contains.false, c.if-x.true, c.quarter_cosine.ensures)
 
-pub returns : goal.returns
+pub returns-else-x : goal.returns-else-x
 unfolding cosine_of
-returns c =
-    let made : div binary64 zero64 zero64 ≡ nan = (unfold div of_bits in refl) in
-    elim c.if-x.branch [ then-x+else-x-2 w ↦ simp (made, w.if-x.true, w.if-x-2.false) | else-x w ↦ simp (made, w.if-x.false) ]
+returns-else-x c =
+    let ends = c.new.ensures in
+    let within = contains_is zero64 half64 c.args.x _ _ _ _ ends.start ends.end ends.exhausted c.contains.ensures.value in
+    simp (both_tests, within, c.if-not-contains.false, c.if-x.false, c.quarter_cosine-else-x.ensures)

@@ -1,23 +1,19 @@
-use Rattle.std.proofs.Common.{◌≡◌, suc, ◌-◌, length, arith}
-use Rattle.numbers.proofs.turns.Sums.{horner_empty, horner_last, horner_step}
+-- `numbers::turns::horner` meets its contract. The chain is a fold from the highest coefficient, over the lower ones from the last on.
+-- Assumes nothing.
+use Rattle.std.proofs.Common.{◌≡◌, [], ◌∷◌, ◌++◌, reverse, ◌∙◌, rules}
+use Rattle.std.specs.List.{fold}
+use Rattle.numbers.specs.Turns.{horner_of}
+use Rattle.numbers.proofs.turns.Sums.{inward, horner_inward}
 use Rattle.numbers.proofs.turns.horner.Goals as goal
 
-pub returns-then-n-eq0 : goal.returns-then-n-eq0
-returns-then-n-eq0 c = horner_empty _ _ c.if-n-eq0.true
-
-pub loop-i-init : goal.loop-i-init
-loop-i-init c =
-    let cs = c.args.coefficients.now in
-    let last : suc (length cs - 1) ≡ length cs = omega arith in
-    (omega arith, horner_last cs _ _ last)
-
-pub loop-i-preserved : goal.loop-i-preserved
-loop-i-preserved c =
-    let at = c.loop-i in
-    let back : suc (at.i - 1) ≡ at.i = omega arith in
-    (omega arith, horner_step c.args.coefficients.now c.args.u at.sum at.i (at.i - 1) back at.invariant.0 at.invariant.1)
+pub returns-in_default : goal.returns-in_default
+unfolding horner_of
+returns-in_default c = search rules
 
 pub returns : goal.returns
 returns c =
-    let done : c.loop-i.i ≡ 0 = omega arith in
-    rw done at c.loop-i.invariant.1
+    let highest = c.in-Some.highest.now in
+    let lower = c.in-Some.lower.now in
+    let folded : c.fold.result ≡ fold (inward c.args.u) highest (reverse lower) = search rules in
+    let parts : c.args.coefficients.now ≡ lower ++ (highest ∷ []) = search rules in
+    rw parts (folded ∙ horner_inward lower highest c.args.u)

@@ -8,5 +8,5 @@ pub returns-then-x : goal.returns-then-x
 returns-then-x c =
     rw (c.is_negative.ensures, zero_minus _ (passes _ c.well_formed.0.1), c.if-x.true)
 
-pub returns : goal.returns
-returns c = rw (zero_minus _ (passes _ c.well_formed.0.1), c.if-x.false)
+pub returns-else-x : goal.returns-else-x
+returns-else-x c = rw (zero_minus _ (passes _ c.well_formed.0.1), c.if-x.false)

@@ -1,18 +1,16 @@
-use Rattle.std.proofs.Common.{◌≡◌, ◌+◌, ◌∙◌, add-zero, arith, rules}
+use Rattle.std.proofs.Common.{◌≤◌, length, ◌∙◌, arith, rules, drop_of_length-le}
+use mathlib.Core.Bool.{and-true}
+use Rattle.numbers.specs.Zeros.{all_plus_zero}
 use Rattle.numbers.proofs.zeros.Scan.{less_step}
 use Rattle.numbers.proofs.zeros.less_samples.Goals as goal
 
-pub loop-k-init : goal.loop-k-init
-loop-k-init c = (omega arith, search rules, rw add-zero)
-
 pub loop-k-preserved : goal.loop-k-preserved
 loop-k-preserved c =
-    let args = c.args in
-    let k = c.loop-k.k in
-    let next : args.from + (k + 1) ≡ args.from + k + 1 = omega arith in
-    (omega arith, search rules, rw next (less_step c.loop-k.differences args.s.now k (args.from + k) _ (omega arith) (omega arith) c.less.ensures ∙ c.loop-k.invariant.2))
+    (search rules, less_step c.loop-k.differences c.args.samples.now c.loop-k.k c.loop-k.k _ (omega arith) (omega arith) c.less.ensures ∙ c.loop-k.invariant.1)
 
 pub returns : goal.returns
+unfolding all_plus_zero
 returns c =
-    let done : c.args.count ≡ c.loop-k.k = omega arith in
-    rw done c.loop-k.invariant.2
+    let s = c.args.samples.now in
+    let past : length s ≤ c.loop-k.k = omega arith in
+    rw (drop_of_length-le s past, and-true) at c.loop-k.invariant.1
