@@ -50,7 +50,7 @@ oscillator_determined = (by_definition, by_definition, by_definition, by_definit
 pub filter_determined : Answer asks.Post × Answer numbers.Post × Answer with-numbers.Post × Answer coefficients.Post × Answer one-pole-step.Post × Answer biquad-step.Post
 filter_determined = (as_follows (λ κs a r s p. sym (as_asked r) ∙ ap asked p), by_definition, by_definition, by_definition, by_definition, by_definition)
 
-pub waveguide_determined : Answer guide-of.Post × Determined (λ r s. step (strung r.memory s.1.1.0.now) r.sample) string-step.Post
+pub waveguide_determined : Answer guide-of.Post × Determined (λ r s. step (strung r.next s.1.1.0.now) r.sample) string-step.Post
 waveguide_determined = (by_definition, by_definition)
 
 pub window_determined : Determined (λ r s. s.1.0.now) plain-window.Post × Determined (λ r s. s.1.0.now) gain-window.Post × Determined (λ r s. outcome r s.1.1.0.now) oscillator-window.Post

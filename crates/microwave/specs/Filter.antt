@@ -5,6 +5,8 @@ use Rattle.std.specs.Float.{binary64}
 use Rattle.numbers.specs.Constants.{zero64, quarter64, half64}
 use Rattle.numbers.specs.Small.{max_of, held_of}
 use Rattle.numbers.specs.Turns.{sine_of, cosine_of}
+use Rattle.util.specs.declared.step.Step.{Step}
+use Rattle.util.specs.Interaction.{step}
 use Rattle.microwave.specs.Arithmetic.{f64_arithmetic}
 use Rattle.microwave.specs.Biquads as B
 use Rattle.microwave.specs.OnePole.{low_pass_alpha, high_pass_alpha}
@@ -20,7 +22,6 @@ use Rattle.microwave.specs.declared.filter.Filter.TheVariants.{LowPass, LowPass2
 use Rattle.microwave.specs.declared.filter.OnePole.TheVariants as P
 use Rattle.microwave.specs.declared.filter.Coefficients.{Coefficients}
 use Rattle.microwave.specs.declared.filter.Biquad.{Biquad}
-use Rattle.microwave.specs.declared.filter.BiquadStepped.{BiquadStepped}
 use Rattle.microwave.specs.declared.filter.Tuning.{Tuning}
 use Rattle.microwave.specs.declared.filter.FilterMachine.{FilterMachine}
 use Rattle.microwave.specs.declared.filter.FilterMachine.TheVariants as M
@@ -99,17 +100,17 @@ told k = record { b0 = k.b0; b1 = k.b1; b2 = k.b2; a0 = k.a0; a1 = k.a1; a2 = k.
 abbrev pub remembered : Biquad → B.Memory Float
 remembered m = record { y1 = m.y1; y2 = m.y2; x1 = m.x1; x2 = m.x2 }
 
-abbrev pub stepped : B.Step Float → BiquadStepped
+abbrev pub stepped : B.Step Float → Step Biquad
 stepped s =
     let m = s.memory in
-    record { memory = record { y1 = m.y1; y2 = m.y2; x1 = m.x1; x2 = m.x2 }; sample = s.sample }
+    step (record { y1 = m.y1; y2 = m.y2; x1 = m.x1; x2 = m.x2 }) s.sample
 
-unfoldable pub biquad_step : Coefficients → Biquad → Float → BiquadStepped
+unfoldable pub biquad_step : Coefficients → Biquad → Float → Step Biquad
 biquad_step k m x0 = stepped (B.step_of f64_arithmetic (told k) (remembered m) x0)
 
 -- a step's two parts
 abbrev pub biquad_next : Coefficients → Biquad → Float → Biquad
-biquad_next k m x0 = (biquad_step k m x0).memory
+biquad_next k m x0 = (biquad_step k m x0).next
 
 abbrev pub biquad_out : Coefficients → Biquad → Float → Float
 biquad_out k m x0 = (biquad_step k m x0).sample

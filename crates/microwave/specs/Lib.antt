@@ -3,6 +3,7 @@ pub mod Parameter
 pub mod Plain
 pub mod Oscillator
 pub mod Arithmetic
+pub mod Running
 pub mod Biquads
 pub mod OnePole
 pub mod Filter

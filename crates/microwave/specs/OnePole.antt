@@ -2,11 +2,12 @@
 use Rattle.std.specs.Prelude.{Float}
 use Rattle.numbers.specs.Constants.{one64, tau64}
 use Rattle.numbers.specs.Small.{recip_of}
+use Rattle.util.specs.declared.step.Step.{Step}
+use Rattle.util.specs.Interaction.{step}
 use Rattle.microwave.specs.Arithmetic.{f64_arithmetic}
 use Rattle.microwave.specs.declared.filter.OnePole.{OnePole}
 use Rattle.microwave.specs.declared.filter.OnePole.TheVariants.{LowPass, HighPass}
 use Rattle.microwave.specs.declared.filter.OnePoleMemory.{OnePoleMemory}
-use Rattle.microwave.specs.declared.filter.OnePoleStepped.{OnePoleStepped}
 open f64_arithmetic use {◌⊕◌, ◌⊖◌, ◌⊗◌, ◌⊘◌}
 
 -- "LowPass: omega = (TAU*cutoff)*w."
@@ -22,17 +23,17 @@ high_pass_alpha cutoff w =
     one64 ⊘ (one64 ⊕ omega)
 
 -- The next output from the last one; the high-pass keeps its last input too. "a run changes only its own kind's part"
-unfoldable pub one_pole_step : OnePole → OnePoleMemory → Float → OnePoleStepped
+unfoldable pub one_pole_step : OnePole → OnePoleMemory → Float → Step OnePoleMemory
 one_pole_step (LowPass alpha) m input =
     let out = m.low ⊕ alpha ⊗ (input ⊖ m.low) in
-    record { memory = record { low = out; high = m.high; last_input = m.last_input }; sample = out }
+    step (record { low = out; high = m.high; last_input = m.last_input }) out
 one_pole_step (HighPass alpha) m input =
     let out = alpha ⊗ ((m.high ⊕ input) ⊖ m.last_input) in
-    record { memory = record { low = m.low; high = out; last_input = input }; sample = out }
+    step (record { low = m.low; high = out; last_input = input }) out
 
 -- a step's two parts
 abbrev pub one_pole_next : OnePole → OnePoleMemory → Float → OnePoleMemory
-one_pole_next k m input = (one_pole_step k m input).memory
+one_pole_next k m input = (one_pole_step k m input).next
 
 abbrev pub one_pole_out : OnePole → OnePoleMemory → Float → Float
 one_pole_out k m input = (one_pole_step k m input).sample

@@ -6,6 +6,8 @@ use Rattle.std.specs.Float.Ieee.{neg, lt, of_int}
 use Rattle.numbers.specs.Constants.{one64, two64, half64, quarter64, three_quarters64}
 use Rattle.numbers.specs.Small.{abs_of, fract_of, rem_euclid_of}
 use Rattle.numbers.specs.Turns.{sine_of}
+use Rattle.util.specs.declared.step.Step.{Step}
+use Rattle.util.specs.Interaction.{step}
 use Rattle.microwave.specs.Arithmetic.{f64_arithmetic}
 use Rattle.microwave.specs.declared.oscillator.OscillatorType.{OscillatorType}
 use Rattle.microwave.specs.declared.oscillator.OscillatorType.TheVariants.{Sin, Sin3, Triangle, Square, Sawtooth}
@@ -14,7 +16,6 @@ use Rattle.microwave.specs.declared.oscillator.Driven.{Driven}
 use Rattle.microwave.specs.declared.oscillator.Driven.TheVariants.{Plain, ByPhase, ByFrequency}
 use Rattle.microwave.specs.declared.oscillator.Phases.{Phases}
 use Rattle.microwave.specs.declared.oscillator.Oscillator.{Oscillator}
-use Rattle.microwave.specs.declared.oscillator.Oscillated.{Oscillated}
 open f64_arithmetic use {◌⊕◌, ◌⊖◌, ◌⊗◌, ◌⊘◌}
 
 -- ---- the start of a window
@@ -64,5 +65,5 @@ oscillator_out o p s = wave_of o.oscillator_type (place_of o.driven p.phase s)
 unfoldable pub oscillator_next : Oscillator → Phases → Float → Phases
 oscillator_next o p s = record { phase = rem_euclid_of (bent_of o.driven (p.phase ⊕ o.d_phase) (s ⊗ o.sample_width)); saved = p.saved }
 
-abbrev pub oscillated : Oscillator → Phases → Float → Oscillated
-oscillated o p s = record { phases = oscillator_next o p s; sample = oscillator_out o p s }
+abbrev pub oscillated : Oscillator → Phases → Float → Step Phases
+oscillated o p s = step (oscillator_next o p s) (oscillator_out o p s)

@@ -4,12 +4,14 @@ use Rattle.std.specs.Float.{binary64}
 use Rattle.std.specs.Float.Ieee.{neg, of_int}
 use Rattle.numbers.specs.Constants.{zero64, one64, half64}
 use Rattle.util.specs.DelayLine.{delay_at}
-use Rattle.util.specs.Interaction.{Step, over, damping_of, low_pass_at, low_pass_gain}
+use Rattle.util.specs.declared.step.Step.{Step}
+use Rattle.util.specs.Interaction.{over, damping_of, low_pass_at, low_pass_gain}
 use Rattle.util.specs.Comb.{Comb, tuned_step}
 use Rattle.util.specs.declared.comb_filter.TunedComb.{TunedComb}
 use Rattle.util.specs.declared.interaction.LowPassGain.{LowPassGain}
 use Rattle.util.specs.declared.soft_clip.SoftClip.{SoftClip}
 use Rattle.microwave.specs.Arithmetic.{f64_arithmetic}
+use Rattle.microwave.specs.Running.{Running, running}
 use Rattle.microwave.specs.declared.waveguide.Reflectance.{Reflectance}
 use Rattle.microwave.specs.declared.waveguide.Reflectance.TheVariants.{Positive, Negative}
 use Rattle.microwave.specs.declared.waveguide.StringMemory.{StringMemory}
@@ -41,12 +43,11 @@ guide_of reflectance size frequency cutoff feedback w =
 -- ---- one sample
 
 -- a string: what it remembers, and its ring
-pub record Strung : Type 0 where
-  pub memory : StringMemory
-  pub ring : List Float
+abbrev pub Strung : Type 0
+Strung = Running StringMemory
 
 abbrev pub strung : StringMemory → List Float → Strung
-strung memory ring = record { memory = memory; ring = ring }
+strung memory ring = running memory ring
 
 -- the position lies in a ring that is not too long, and so does the delay: what the checks leave
 pub record InRing (k : Guide) (s : Strung) : Type 0 where

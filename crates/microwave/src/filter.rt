@@ -1,15 +1,18 @@
 // The seven filters as machines: coefficients once per window, one step per sample, in the order of operations of filter.rs, whose port this is.
 // Rests on the small functions of f64 and the sine and cosine of turns, of `numbers`.
-ghost use Rattle.std.specs.Prelude.{◌≡◌};
+ghost use Rattle.std.specs.Prelude.{◌≡◌, ⊤};
+ghost use Rattle.microwave.specs.Running.{ringless};
 ghost use Rattle.microwave.specs.Parameter.{ask_list, numbers_of};
 ghost use Rattle.microwave.specs.Arithmetic.{f64_arithmetic};
 ghost use Rattle.microwave.specs.Biquads.{with_poles, LowPass2, HighPass2, BandPass, Notch, AllPass};
 ghost use Rattle.microwave.specs.OnePole.{low_pass_alpha, high_pass_alpha, one_pole_step};
 ghost use Rattle.microwave.specs.Filter.{biquad_asks, filter_asks, with_numbers, biquad_step, tuned_to, coded, coefficients_at, machine_of};
 
+use crate::machine::Machine;
 use crate::parameter::{Asks, Numbers, Parameter, numbers_found, required};
 use numbers::small::{held, maximum, recip};
 use numbers::turns::{cosine_turns, sine_turns};
+use util::step::Step;
 
 const TAU: f64 = 6.283185307179586;
 
@@ -156,23 +159,17 @@ pub struct OnePoleMemory {
     pub last_input: f64,
 }
 
-#[derive(Clone, Copy)]
-pub struct OnePoleStepped {
-    pub memory: OnePoleMemory,
-    pub sample: f64,
-}
-
 impl OnePoleMemory {
     // One sample. A step changes its own kind's part of the memory only.
-    pub fn step(mut self, k: OnePole, input: f64) -> OnePoleStepped
+    pub fn step(mut self, k: OnePole, input: f64) -> Step<OnePoleMemory>
         ensures { result ≡ one_pole_step k self input }
     {
         match k {
             OnePole::LowPass { alpha } => {
                 let out = self.low + alpha * (input - self.low);
                 self.low = out;
-                OnePoleStepped {
-                    memory: self,
+                Step {
+                    next: self,
                     sample: out,
                 }
             }
@@ -180,12 +177,24 @@ impl OnePoleMemory {
                 let out = alpha * (self.high + input - self.last_input);
                 self.high = out;
                 self.last_input = input;
-                OnePoleStepped {
-                    memory: self,
+                Step {
+                    next: self,
                     sample: out,
                 }
             }
         }
+    }
+}
+
+impl Machine for OnePole {
+    type Memory = OnePoleMemory;
+
+    ghost can_step = { λ k s. ⊤ };
+
+    ghost step_of = { λ k. ringless (one_pole_step k) };
+
+    fn step(self, memory: OnePoleMemory, _ring: &mut [f64], input: f64) -> Step<OnePoleMemory> {
+        memory.step(self, input)
     }
 }
 
@@ -224,15 +233,9 @@ pub struct Biquad {
     pub x2: f64,
 }
 
-#[derive(Clone, Copy)]
-pub struct BiquadStepped {
-    pub memory: Biquad,
-    pub sample: f64,
-}
-
 impl Biquad {
     // One sample, the same for all five kinds: the sum from left to right, then one quotient.
-    pub fn step(mut self, k: Coefficients, x0: f64) -> BiquadStepped
+    pub fn step(mut self, k: Coefficients, x0: f64) -> Step<Biquad>
         ensures { result ≡ biquad_step k self x0 }
     {
         let sum = k.b0 * x0 + k.b1 * self.x1 + k.b2 * self.x2 - k.a1 * self.y1 - k.a2 * self.y2;
@@ -241,10 +244,22 @@ impl Biquad {
         self.x1 = x0;
         self.y2 = self.y1;
         self.y1 = y0;
-        BiquadStepped {
-            memory: self,
+        Step {
+            next: self,
             sample: y0,
         }
+    }
+}
+
+impl Machine for Coefficients {
+    type Memory = Biquad;
+
+    ghost can_step = { λ k s. ⊤ };
+
+    ghost step_of = { λ k. ringless (biquad_step k) };
+
+    fn step(self, memory: Biquad, _ring: &mut [f64], input: f64) -> Step<Biquad> {
+        memory.step(self, input)
     }
 }
 

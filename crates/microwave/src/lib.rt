@@ -2,6 +2,7 @@
 #![tactic(auto)]
 
 pub mod filter;
+mod machine;
 pub mod oscillator;
 pub mod parameter;
 pub mod plain;

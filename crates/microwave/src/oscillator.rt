@@ -1,11 +1,14 @@
 // Oscillators: five waveforms, and a phase that moves on by one step per sample. Port of oscillator.rs.
 // Rests on the small functions of f64 and the sine of turns, of `numbers`.
-ghost use Rattle.std.specs.Prelude.{◌≡◌};
+ghost use Rattle.std.specs.Prelude.{◌≡◌, ⊤};
+ghost use Rattle.microwave.specs.Running.{ringless};
 ghost use Rattle.microwave.specs.Oscillator.{driven_by, wave_of, d_phase_of, phase_saved, place_of, bent_of, oscillated};
 
+use crate::machine::Machine;
 use crate::parameter::Parameter;
 use numbers::small::{absolute, fract, rem_euclid_one};
 use numbers::turns::sine_turns;
+use util::step::Step;
 
 #[derive(Clone, Copy)]
 pub enum OscillatorType {
@@ -54,13 +57,6 @@ pub struct Oscillator {
     pub driven: Driven,
     pub d_phase: f64,
     pub sample_width: f64,
-}
-
-// The memory after a sample, and the sample.
-#[derive(Clone, Copy)]
-pub struct Oscillated {
-    pub phases: Phases,
-    pub sample: f64,
 }
 
 impl Modulation {
@@ -135,17 +131,26 @@ impl Phases {
     }
 
     // One sample: the signal first, then the phase moves on.
-    pub fn step(mut self, o: Oscillator, input: f64) -> Oscillated
+    pub fn step(mut self, o: Oscillator, input: f64) -> Step<Phases>
         ensures { result ≡ oscillated o self input }
     {
-        let oscillator_type = o.oscillator_type;
-        let driven = o.driven;
-        let sample = oscillator_type.wave(driven.place(self.phase, input));
-        let moved = driven.bent(self.phase + o.d_phase, input * o.sample_width);
+        let sample = o.oscillator_type.wave(o.driven.place(self.phase, input));
+        let moved = o
+            .driven
+            .bent(self.phase + o.d_phase, input * o.sample_width);
         self.phase = rem_euclid_one(moved);
-        Oscillated {
-            phases: self,
-            sample,
-        }
+        Step { next: self, sample }
+    }
+}
+
+impl Machine for Oscillator {
+    type Memory = Phases;
+
+    ghost can_step = { λ k s. ⊤ };
+
+    ghost step_of = { λ k. ringless (oscillated k) };
+
+    fn step(self, phases: Phases, _ring: &mut [f64], input: f64) -> Step<Phases> {
+        phases.step(self, input)
     }
 }

@@ -5,12 +5,14 @@ ghost use Rattle.util.specs.DelayLine.{delay_at};
 ghost use Rattle.util.specs.Interaction.{step};
 ghost use Rattle.microwave.specs.Waveguide.{feedback_factor, length_factor, guide_of, strung, InRing, comb_of, string_step};
 
+use crate::machine::Machine;
 use crate::parameter::Parameter;
 use util::comb_filter::TunedComb;
 use util::delay_line::{Cursor, Delay, delay_at};
 use util::interaction::LowPassGain;
 use util::low_pass::OnePoleLowPass;
 use util::soft_clip::SoftClip;
+use util::step::Step;
 
 #[derive(Clone, Copy)]
 pub enum Reflectance {
@@ -42,13 +44,6 @@ pub struct Guide {
     pub damping: f64,
     pub gain: f64,
     pub delay: Delay,
-}
-
-// The memory after a sample, and the sample.
-#[derive(Clone, Copy)]
-pub struct StringStepped {
-    pub memory: StringMemory,
-    pub sample: f64,
 }
 
 impl Reflectance {
@@ -133,20 +128,30 @@ impl Guide {
 
 impl StringMemory {
     // One sample, by the comb.
-    pub fn step(self, k: Guide, ring: &mut [f64], input: f64) -> StringStepped
+    pub fn step(self, k: Guide, ring: &mut [f64], input: f64) -> Step<StringMemory>
         requires { InRing k (strung self ring.old) }
-        ensures { step (strung result.memory ring.new) result.sample ≡ string_step k (strung self ring.old) input }
+        ensures { step (strung result.next ring.new) result.sample ≡ string_step k (strung self ring.old) input }
     {
-        let comb = k.comb(self);
-        let tuned = comb.process_sample_at(ring, k.delay, input);
+        let tuned = k.comb(self).process_sample_at(ring, k.delay, input);
         let next = tuned.comb;
-        let memory = StringMemory {
-            low_pass: next.response.first.state,
-            position: next.cursor.position,
-        };
-        StringStepped {
-            memory,
+        Step {
+            next: StringMemory {
+                low_pass: next.response.first.state,
+                position: next.cursor.position,
+            },
             sample: tuned.sample,
         }
+    }
+}
+
+impl Machine for Guide {
+    type Memory = StringMemory;
+
+    ghost can_step = { InRing };
+
+    ghost step_of = { string_step };
+
+    fn step(self, memory: StringMemory, ring: &mut [f64], input: f64) -> Step<StringMemory> {
+        memory.step(self, ring, input)
     }
 }

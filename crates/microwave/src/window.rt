@@ -1,4 +1,4 @@
-// One loop per sort of machine over a window: each sample is read, worked by the machine and mixed into the output.
+// One loop over a window for every machine of one input: each sample is read, worked by the machine and mixed into the output.
 // The stages without memory go by blocks of eight samples, and sample by sample through what is left of the window.
 // Rests on `fetch` and `write_sample` of magnetron, and on the same for blocks. The loops run once the checks have passed: they ask for the places that the checks have looked at.
 ghost use Rattle.std.specs.Prelude.{◌≡◌};
@@ -9,9 +9,11 @@ ghost use Rattle.microwave.specs.Oscillator.{oscillator_next, oscillator_out};
 ghost use Rattle.microwave.specs.OnePole.{one_pole_next, one_pole_out};
 ghost use Rattle.microwave.specs.Filter.{biquad_next, biquad_out};
 ghost use Rattle.microwave.specs.Waveguide.{strung, InRing, string_next, string_out};
+ghost use Rattle.microwave.specs.Running.{running, next_by, out_by};
 ghost use Rattle.microwave.specs.Inside.{Windowed};
 
 use crate::filter::{Biquad, Coefficients, OnePole, OnePoleMemory};
+use crate::machine::Machine;
 use crate::oscillator::{Oscillator, Phases};
 use crate::plain::Shape;
 use crate::waveguide::{Guide, StringMemory};
@@ -91,10 +93,59 @@ pub fn gain_window(gain: f64, own: &mut [f64], other: &[f64], input: Source, tar
     }
 }
 
-// An oscillator, driven by the input or not. Answers its phases after the window.
+// The samples of a window of a machine.
+fn machine_loop<M: Machine>(
+    machine: M,
+    mut memory: M::Memory,
+    ring: &mut [f64],
+    own: &mut [f64],
+    other: &[f64],
+    input: Source,
+    target: Target,
+) -> M::Memory
+    requires lies_in { (LiesIn target own.old) × (ClearOf input own.old other.now target) }
+    requires can_step { M.can_step machine (running memory ring.old) }
+    ensures { Windowed (next_by (M.step_of machine)) (out_by (M.step_of machine)) (running memory ring.old)
+        (signal_of input own.old other.now) own.old target (running result ring.new) own.new }
+{
+    for i in 0..target.samples {
+        let x = fetch(own, other, input, i);
+        let stepped = machine.step(memory, ring, x);
+        memory = stepped.next;
+        write_sample(own, target, i, stepped.sample);
+    }
+    memory
+}
+
+// The same, where the input's place is told apart once, so that no sample asks for it again.
+fn machine_window<M: Machine>(
+    machine: M,
+    memory: M::Memory,
+    ring: &mut [f64],
+    own: &mut [f64],
+    other: &[f64],
+    input: Source,
+    target: Target,
+) -> M::Memory
+    requires lies_in { (LiesIn target own.old) × (ClearOf input own.old other.now target) }
+    requires can_step { M.can_step machine (running memory ring.old) }
+    ensures { Windowed (next_by (M.step_of machine)) (out_by (M.step_of machine)) (running memory ring.old)
+        (signal_of input own.old other.now) own.old target (running result ring.new) own.new }
+{
+    match input {
+        Source::Zeros => machine_loop(machine, memory, ring, own, other, Source::Zeros, target),
+        Source::Own(at) => machine_loop(machine, memory, ring, own, other, Source::Own(at), target),
+        Source::Other(at) => {
+            machine_loop(machine, memory, ring, own, other, Source::Other(at), target)
+        }
+    }
+}
+
+// An oscillator, driven by the input or not. Answers its phases after the window. Its step is long: in three loops, one for each place where the
+// input may lie, a modulated sawtooth takes a third more time a sample.
 pub fn oscillator_window(
     k: Oscillator,
-    mut phases: Phases,
+    phases: Phases,
     own: &mut [f64],
     other: &[f64],
     input: Source,
@@ -103,21 +154,13 @@ pub fn oscillator_window(
     requires { (LiesIn target own.old) × (ClearOf input own.old other.now target) }
     ensures { Windowed (oscillator_next k) (oscillator_out k) phases (signal_of input own.old other.now) own.old target result own.new }
 {
-    let mut i = 0;
-    while i < target.samples {
-        let x = fetch(own, other, input, i);
-        let stepped = phases.step(k, x);
-        phases = stepped.phases;
-        write_sample(own, target, i, stepped.sample);
-        i += 1;
-    }
-    phases
+    machine_loop(k, phases, &mut [], own, other, input, target)
 }
 
 // A one-pole filter. Answers its memory after the window, as the next two do.
 pub fn one_pole_window(
     k: OnePole,
-    mut memory: OnePoleMemory,
+    memory: OnePoleMemory,
     own: &mut [f64],
     other: &[f64],
     input: Source,
@@ -126,41 +169,10 @@ pub fn one_pole_window(
     requires { (LiesIn target own.old) × (ClearOf input own.old other.now target) }
     ensures { Windowed (one_pole_next k) (one_pole_out k) memory (signal_of input own.old other.now) own.old target result own.new }
 {
-    let mut i = 0;
-    while i < target.samples {
-        let x = fetch(own, other, input, i);
-        let stepped = memory.step(k, x);
-        memory = stepped.memory;
-        write_sample(own, target, i, stepped.sample);
-        i += 1;
-    }
-    memory
+    machine_loop(k, memory, &mut [], own, other, input, target)
 }
 
-// The samples of a window, wherever its input lies.
-fn biquad_loop(
-    k: Coefficients,
-    mut memory: Biquad,
-    own: &mut [f64],
-    other: &[f64],
-    input: Source,
-    target: Target,
-) -> Biquad
-    requires { (LiesIn target own.old) × (ClearOf input own.old other.now target) }
-    ensures { Windowed (biquad_next k) (biquad_out k) memory (signal_of input own.old other.now) own.old target result own.new }
-{
-    let mut i = 0;
-    while i < target.samples {
-        let x = fetch(own, other, input, i);
-        let stepped = memory.step(k, x);
-        memory = stepped.memory;
-        write_sample(own, target, i, stepped.sample);
-        i += 1;
-    }
-    memory
-}
-
-// A biquad filter. Where the input lies is told apart once, so that no sample asks for it again.
+// A biquad filter.
 pub fn biquad_window(
     k: Coefficients,
     memory: Biquad,
@@ -172,40 +184,10 @@ pub fn biquad_window(
     requires { (LiesIn target own.old) × (ClearOf input own.old other.now target) }
     ensures { Windowed (biquad_next k) (biquad_out k) memory (signal_of input own.old other.now) own.old target result own.new }
 {
-    match input {
-        Source::Zeros => biquad_loop(k, memory, own, other, Source::Zeros, target),
-        Source::Own(at) => biquad_loop(k, memory, own, other, Source::Own(at), target),
-        Source::Other(at) => biquad_loop(k, memory, own, other, Source::Other(at), target),
-    }
+    machine_window(k, memory, &mut [], own, other, input, target)
 }
 
-// The samples of a window, wherever its input lies.
-fn string_loop(
-    k: Guide,
-    mut memory: StringMemory,
-    ring: &mut [f64],
-    own: &mut [f64],
-    other: &[f64],
-    input: Source,
-    target: Target,
-) -> StringMemory
-    requires lies_in { (LiesIn target own.old) × (ClearOf input own.old other.now target) }
-    requires in_ring { InRing k (strung memory ring.old) }
-    ensures { Windowed (string_next k) (string_out k) (strung memory ring.old) (signal_of input own.old other.now) own.old target
-        (strung result ring.new) own.new }
-{
-    let mut i = 0;
-    while i < target.samples {
-        let x = fetch(own, other, input, i);
-        let stepped = memory.step(k, ring, x);
-        memory = stepped.memory;
-        write_sample(own, target, i, stepped.sample);
-        i += 1;
-    }
-    memory
-}
-
-// A waveguide, on its own ring. Where the input lies is told apart once, so that no sample asks for it again.
+// A waveguide, on its own ring.
 pub fn string_window(
     k: Guide,
     memory: StringMemory,
@@ -220,9 +202,5 @@ pub fn string_window(
     ensures { Windowed (string_next k) (string_out k) (strung memory ring.old) (signal_of input own.old other.now) own.old target
         (strung result ring.new) own.new }
 {
-    match input {
-        Source::Zeros => string_loop(k, memory, ring, own, other, Source::Zeros, target),
-        Source::Own(at) => string_loop(k, memory, ring, own, other, Source::Own(at), target),
-        Source::Other(at) => string_loop(k, memory, ring, own, other, Source::Other(at), target),
-    }
+    machine_window(k, memory, ring, own, other, input, target)
 }

@@ -4,15 +4,20 @@
 --     looped_room, looped_reach     sample i of the target lies in the pool, and sample i of the input in reach
 --     looped_more      the machine steps on what is read, and what it answers is written
 --     looped_end       once i is the number of samples
+--     windowed_alone   what a loop leaves of a machine that has no ring is said of its memory alone
 -- Assumes nothing.
-use Rattle.std.proofs.Common.{◌≡◌, ℕ, ◌+◌, ◌<◌, ◌≤◌, List, length, refl, ap, ◌∙◌, le_antisymm, add-one}
+use Rattle.std.proofs.Common.{◌≡◌, ℕ, zero, suc, ◌+◌, ◌<◌, ◌≤◌, List, length, refl, ap, ◌∙◌, le_antisymm, add-one}
 use lib.Ieee.{Float}
 use Rattle.magnetron.specs.Signals.{state_at, machine}
 use Rattle.magnetron.specs.Inside.Source.{signal_of, InReach}
 use Rattle.magnetron.specs.Inside.Target.{LiesIn, ClearOf, sampled}
 use Rattle.magnetron.specs.declared.source.Source.{Source}
 use Rattle.magnetron.specs.declared.output.Target.{Target}
+use Rattle.magnetron.specs.Inside.Mix.{mix_of, from}
+use Rattle.magnetron.proofs.Blocks.{window_ext}
 use Rattle.magnetron.proofs.Writing.{Writing, writing_start, room, reach, as_at_first, writing_more, writing_end}
+use Rattle.util.specs.declared.step.Step.{Step}
+use Rattle.microwave.specs.Running.{Running, running, ringless, next_by, out_by}
 use Rattle.microwave.specs.Inside.{Windowed}
 
 pub record Looped {S : Type 0} (next : S → Float → S) (out : S → Float → Float) (s₀ : S) (own other : List Float) (input : Source) (target : Target)
@@ -49,3 +54,19 @@ module _ {S : Type 0} {next : S → Float → S} {out : S → Float → Float} {
       state = t.state ∙ ap (λ (k : ℕ). state_at next s₀ (signal_of input own other) k) (le_antisymm t.writes.upto h);
       samples = writing_end t.writes h;
     }
+
+-- a machine that has no ring, by itself
+module _ {M : Type 0} (f : M → Float → Step M) (m : M) (r : List Float) (x : ℕ → Float) where
+  state_alone : (i : ℕ) → state_at (next_by (ringless f)) (running m r) x i ≡ running (state_at (next_by f) m x i) r
+  unfolding state_at
+  state_alone zero = refl
+  state_alone (suc i) = ap (λ (s : Running M). next_by (ringless f) s (x i)) (state_alone i)
+
+  pub windowed_alone : {own : List Float} {target : Target} {m' : M} {r' own' : List Float}
+      → Windowed (next_by (ringless f)) (out_by (ringless f)) (running m r) x own target (running m' r') own'
+      → Windowed (next_by f) (out_by f) m x own target m' own'
+  windowed_alone {own} {target} w = record {
+    state = ap (λ (s : Running M). s.memory) (w.state ∙ state_alone target.samples);
+    samples = w.samples ∙ window_ext own target.base target.samples _ _
+        (λ i h. ap (λ (s : Running M). mix_of target.stale target.level (from own target.base i) (out_by (ringless f) s (x i))) (state_alone i));
+  }

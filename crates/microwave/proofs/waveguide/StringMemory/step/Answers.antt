@@ -8,10 +8,10 @@ use Rattle.microwave.proofs.waveguide.StringMemory.step.Goals as goal
 
 pub process_sample_at-tuned-requires : goal.process_sample_at-tuned-requires
 process_sample_at-tuned-requires c =
-    (rw c.comb-comb.ensures c.requires.position, c.requires.short, c.requires.delay)
+    (rw c.comb.ensures c.requires.position, c.requires.short, c.requires.delay)
 
 pub returns : goal.returns
 unfolding string_step
 returns c =
     let a = c.args in
-    ap (over left_by) (c.process_sample_at-tuned.ensures ∙ ap (λ (d : TunedComb). tuned_step a.k.delay d a.ring.now a.input) c.comb-comb.ensures)
+    ap (over left_by) (c.process_sample_at-tuned.ensures ∙ ap (λ (d : TunedComb). tuned_step a.k.delay d a.ring.now a.input) c.comb.ensures)
