@@ -1,8 +1,9 @@
 -- Each public contract of `magnetron` determines what is seen of a call: its result and every slice that it may change. `Reads.Post`, which Rattle
 -- makes of a function's `ensures`, is the contract itself: no copy of it is written here. Assumes nothing.
-use Rattle.numbers.specs.Outcome.{Answer, Determined, by_definition, outcome}
+use Rattle.numbers.specs.Outcome.{Answer, Determined, by_definition, as_follows, outcome}
 use Rattle.magnetron.specs.Single.{after_write}
 use Rattle.magnetron.proofs.buffer.BufferIndex.stage_activity.Reads as stage-activity
+use Rattle.magnetron.proofs.buffer.BufferIndexFromUsize.from.Reads as from
 use Rattle.magnetron.proofs.buffer.buffer_of.Reads as buffer-of
 use Rattle.magnetron.proofs.buffer.Marks.at.Reads as at
 use Rattle.magnetron.proofs.buffer.Marks.clear.Reads as clear
@@ -11,7 +12,7 @@ use Rattle.magnetron.proofs.pool.Pools.with_marks.Reads as with-marks
 use Rattle.magnetron.proofs.pool.Pools.set_reset.Reads as set-reset
 use Rattle.magnetron.proofs.pool.Pools.base_of.Reads as base-of
 use Rattle.magnetron.proofs.prepare.new_pool.Reads as new-pool
-use Rattle.magnetron.proofs.prepare.prepare.Reads as prepare
+use Rattle.magnetron.proofs.lent.Lent.prepare.Reads as prepare
 use Rattle.magnetron.proofs.check.pool_ok.Reads as pool-ok
 use Rattle.magnetron.proofs.check.shape_ok.Reads as shape-ok
 use Rattle.magnetron.proofs.check.window_ok.Reads as window-ok
@@ -24,7 +25,7 @@ use Rattle.magnetron.proofs.outputs.Outputs.differ.Reads as differ
 use Rattle.magnetron.proofs.outputs.Outputs.clear_of.Reads as clear-of
 use Rattle.magnetron.proofs.outputs.Outputs.clear.Reads as clear-outputs
 use Rattle.magnetron.proofs.outputs.Outputs.louder.Reads as louder
-use Rattle.magnetron.proofs.check.check_prepare.Reads as check-prepare
+use Rattle.magnetron.proofs.lent.Lent.check_prepare.Reads as check-prepare
 use Rattle.magnetron.proofs.source.source_of.Reads as source-of
 use Rattle.magnetron.proofs.source.fetch.Reads as fetch
 use Rattle.magnetron.proofs.block.fetch_block.Reads as fetch-block
@@ -32,15 +33,15 @@ use Rattle.magnetron.proofs.block.scaled.Reads as scaled
 use Rattle.magnetron.proofs.block.write_block.Reads as write-block
 use Rattle.magnetron.proofs.output.mix.Reads as mix
 use Rattle.magnetron.proofs.output.write_sample.Reads as write-sample
-use Rattle.magnetron.proofs.write.write_1.Reads as write-1
-use Rattle.magnetron.proofs.write.read_0_write_1.Reads as read-0-write-1
-use Rattle.magnetron.proofs.write.read_1_write_1.Reads as read-1-write-1
-use Rattle.magnetron.proofs.write.read_2_write_1.Reads as read-2-write-1
-use Rattle.magnetron.proofs.read.check_read.Reads as check-read
-use Rattle.magnetron.proofs.read.read.Reads as read
+use Rattle.magnetron.proofs.lent.LentMut.write_1.Reads as write-1
+use Rattle.magnetron.proofs.lent.LentMut.read_0_write_1.Reads as read-0-write-1
+use Rattle.magnetron.proofs.lent.LentMut.read_1_write_1.Reads as read-1-write-1
+use Rattle.magnetron.proofs.lent.LentMut.read_2_write_1.Reads as read-2-write-1
+use Rattle.magnetron.proofs.lent.Lent.check_read.Reads as check-read
+use Rattle.magnetron.proofs.lent.Lent.read.Reads as read
 
-pub buffer_determined : Answer stage-activity.Post × Answer buffer-of.Post × Answer at.Post × Answer clear.Post
-buffer_determined = (by_definition, by_definition, by_definition, by_definition)
+pub buffer_determined : Answer stage-activity.Post × Answer from.Post × Answer buffer-of.Post × Answer at.Post × Answer clear.Post
+buffer_determined = (by_definition, by_definition, by_definition, by_definition, by_definition)
 
 pub pool_determined : Answer marks.Post × Answer with-marks.Post × Answer set-reset.Post × Answer base-of.Post
 pool_determined = (by_definition, by_definition, by_definition, by_definition)
@@ -67,11 +68,12 @@ block_determined = (by_definition, by_definition, by_definition)
 pub target_determined : Answer mix.Post × Determined (λ r s. s.0.now) write-sample.Post
 target_determined = (by_definition, by_definition)
 
-pub write_determined : Determined (λ r s. after_write r s.1.0.now s.1.1.0.now) write-1.Post
-    × Determined (λ r s. after_write r s.1.0.now s.1.1.0.now) read-0-write-1.Post
-    × Determined (λ r s. after_write r s.1.0.now s.1.1.0.now) read-1-write-1.Post
-    × Determined (λ r s. after_write r s.1.0.now s.1.1.0.now) read-2-write-1.Post
-write_determined = (by_definition, by_definition, by_definition, by_definition)
+pub write_determined : Determined (λ r s. after_write r s.0.now.internal.now s.0.now.external.now) write-1.Post
+    × Determined (λ r s. after_write r s.0.now.internal.now s.0.now.external.now) read-0-write-1.Post
+    × Determined (λ r s. after_write r s.0.now.internal.now s.0.now.external.now) read-1-write-1.Post
+    × Determined (λ r s. after_write r s.0.now.internal.now s.0.now.external.now) read-2-write-1.Post
+write_determined =
+    (as_follows (λ κs a r s h. h.1), as_follows (λ κs a r s h. h.1), as_follows (λ κs a r s h. h.1), as_follows (λ κs a r s h. h.1))
 
 pub read_determined : Answer check-read.Post × Determined (λ r s. r.now) read.Post
 read_determined = (by_definition, by_definition)

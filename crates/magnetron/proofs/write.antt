@@ -1,2 +1,2 @@
 -- What the proofs of `put` and `write_1` use.
-mod Putting
+pub mod Putting

@@ -1,14 +1,12 @@
 // The checks of pools and of the buffers that are named, each a test by itself: 1, 2, 5 and 7.
 ghost use Rattle.std.specs.Prelude.{◌≡◌, ◌∷◌, [], ◌++◌};
-ghost use Rattle.answers.specs.Verdict.{verdict_of};
 ghost use Rattle.magnetron.specs.Buffers.{list_of};
 ghost use Rattle.magnetron.specs.Checks.{pool_ok, shape_ok, window_ok, has_buffer, all_there, no_clash};
-ghost use Rattle.magnetron.specs.Single.{lent, prepare_fault};
+ghost use Rattle.magnetron.specs.Single.{length_ok};
 
 use crate::buffer::{BufferIndex, Marks};
 use crate::inputs::{Inputs, is_input};
 use crate::pool::Pools;
-use answers::verdict::{Verdict, refusal, refusal_unless};
 
 // Whether one pool keeps its bounds: at most 16 buffers of at most 4,096 samples, in a slice of that length.
 #[tactic(auto, unfolding(crate::specs::Checks::pool_ok))]
@@ -67,19 +65,12 @@ pub fn no_clash(n: usize, inputs: Inputs, output: BufferIndex, marks: Marks) -> 
     n == 0 || !is_input(output, inputs) || marks.at(output)
 }
 
-// Checks 1 and 2 of what is lent.
-#[tactic(auto, unfolding(crate::specs::Single::prepare_fault))]
-pub fn check_prepare(
-    pools: Pools,
-    internal: &[f64],
-    external: &[f64],
-    zeros: &[f64],
-    n: usize,
-) -> Verdict
-    ensures { result ≡ verdict_of (prepare_fault (lent pools internal.now external.now zeros.now n)) }
+// Whether as many values are lent as are written.
+pub(crate) fn length_ok(inputs: Inputs, len: usize, n: usize) -> bool
+    ensures { result ≡ length_ok inputs len n }
 {
-    if !shape_ok(pools, internal.len(), external.len(), zeros) {
-        return refusal(1);
+    match inputs {
+        Inputs::Nothing => len == n,
+        Inputs::One(_) | Inputs::Two(_, _) => true,
     }
-    refusal_unless(window_ok(pools, n), 2)
 }

@@ -7,6 +7,7 @@ pub mod buffer;
 pub mod check;
 mod content;
 pub mod inputs;
+pub mod lent;
 pub mod output;
 pub mod outputs;
 pub mod pool;

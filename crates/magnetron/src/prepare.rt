@@ -2,21 +2,22 @@
 ghost use Rattle.std.specs.Prelude.{◌≡◌};
 ghost use Rattle.numbers.specs.Outcome.{outcome};
 ghost use Rattle.magnetron.specs.Pools.{fresh_pool};
-ghost use Rattle.magnetron.specs.Single.{lent, new_pool_of, prepared_of};
+ghost use Rattle.magnetron.specs.Single.{what_is_lent, new_pool_of, prepared_of};
 
-use crate::check::{check_prepare, pool_ok};
+use crate::check::pool_ok;
+use crate::lent::Lent;
 use crate::pool::{Pool, Pools};
-use answers::verdict::{Verdict, done, refusal};
+use answers::refusal::{Reason, Verdict};
 use answers::zeros::fill_with_zeros;
 
-#[repr(C)]
+// What a new pool answers: its record, or that of an empty one.
 #[derive(Clone, Copy)]
 pub struct Made {
     pub verdict: Verdict,
     pub pool: Pool,
 }
 
-#[repr(C)]
+// What prepare answers: the pools made ready, or as they came.
 #[derive(Clone, Copy)]
 pub struct Prepared {
     pub verdict: Verdict,
@@ -35,44 +36,44 @@ fn fresh_pool(count: usize, capacity: usize) -> Pool
 }
 
 // A new pool holds zeros, not stale. A refused one is empty, and its slice stays.
+#[tactic(auto, unfolding(crate::specs::Single::new_pool_of, answers::specs::Refusal::verdict_of))]
 pub fn new_pool(count: usize, capacity: usize, samples: &mut [f64]) -> Made
     ensures { outcome result samples.new ≡ new_pool_of count capacity samples.old }
 {
     if !pool_ok(count, capacity, samples.len()) {
         return Made {
-            verdict: refusal(1),
+            verdict: Err(Reason::Bounds.into()),
             pool: fresh_pool(0, 0),
         };
     }
     fill_with_zeros(samples);
     Made {
-        verdict: done(),
+        verdict: Ok(()),
         pool: fresh_pool(count, capacity),
     }
 }
 
-// Marks every internal buffer stale and clears the reset flag; a refusal changes nothing.
-pub fn prepare(
-    pools: Pools,
-    internal: &[f64],
-    external: &[f64],
-    zeros: &[f64],
-    n: usize,
-) -> Prepared
-    ensures { result ≡ prepared_of (lent pools internal.now external.now zeros.now n) }
-{
-    let verdict = check_prepare(pools, internal, external, zeros, n);
-    if verdict.number != 0 {
-        return Prepared { verdict, pools };
-    }
-    let stale = pools.internal.all_stale();
-    let kept = pools.external;
-    Prepared {
-        verdict,
-        pools: Pools {
-            internal: stale,
-            external: kept,
-            reset: false,
-        },
+impl Lent<'_> {
+    // Marks every internal buffer stale and clears the reset flag; a refusal changes nothing.
+    pub fn prepare(&self) -> Prepared
+        ensures { result ≡ prepared_of (what_is_lent self.now) }
+    {
+        let pools = self.pools;
+        if let Err(refusal) = self.check_prepare() {
+            return Prepared {
+                verdict: Err(refusal),
+                pools,
+            };
+        }
+        let internal = pools.internal.all_stale();
+        let external = pools.external;
+        Prepared {
+            verdict: Ok(()),
+            pools: Pools {
+                internal,
+                external,
+                reset: false,
+            },
+        }
     }
 }

@@ -1,9 +1,10 @@
 -- A single write whose checks passed: its buffers lie where its loops look, its inputs clear of its output, and what the loops leave is what the definition says.
 -- The output's pool has the samples `own`, and the other pool `other`.
 -- Assumes nothing.
-use mathlib.Core.Path.{◌≡◌, refl, sym, ◌∙◌}
-use mathlib.Core.Logic.{◌≢◌, inl, inr}
+use mathlib.Core.Path.{◌≡◌, refl, sym, ap, ◌∙◌}
+use mathlib.Core.Logic.{inl, inr}
 use mathlib.Core.Bool.{true}
+use mathlib.Core.Option as found
 use mathlib.Core.List.{List, [], ◌∷◌, ◌++◌}
 use Prim.Native.Nat.{ℕ, ◌+◌, ◌≤◌}
 use native.Mathlib.Omega.{arith}
@@ -12,17 +13,17 @@ use lib.Seq.{take_all}
 use lib.Ieee.{Float, nan, binary64, mul}
 use borrow.Author.Tests.{eqb-true}
 use Rattle.order.specs.Order.{Among}
-use Rattle.order.specs.Checks.{passed}
-use Rattle.answers.specs.Verdict.{verdict_of}
-use Rattle.answers.specs.declared.verdict.Verdict.{Verdict}
-use Rattle.answers.proofs.Verdicts.{rejected}
-use Rattle.magnetron.specs.Buffers.{pick, stale_at, cleared, list_of}
+use Rattle.std.specs.Prelude.{Option, Ok, Err}
+use Rattle.answers.specs.Refusal.{verdict_of}
+use Rattle.answers.specs.declared.refusal.Reason.{Reason}
+use Rattle.answers.specs.declared.refusal.Refusal.{Refusal}
+use Rattle.magnetron.specs.Buffers.{Banks, pick, stale_at, cleared, list_of}
 use Rattle.magnetron.specs.Pools.{marks_in, base_of, shape_of, sided}
 use Rattle.magnetron.specs.Checks.{has_buffer}
 use Rattle.magnetron.specs.Inside.Source.{source_of, signal_of, Clear}
 use Rattle.magnetron.specs.Signals.{tab, window}
 use Rattle.magnetron.specs.Inside.Mix.{mixed, times}
-use Rattle.magnetron.specs.Single.{Lent, shape_in, values_of, level_of, write_fault, put_into, after_write, written_to, refused_by, write_of}
+use Rattle.magnetron.specs.Single.{Lent, shape_in, values_of, level_of, write_fault, put_into, after_write, written_to, left_by, banks_in, write_of}
 use Rattle.magnetron.specs.Inside.Room.{Writable}
 use Rattle.magnetron.specs.declared.buffer.BufferIndex.{BufferIndex}
 use Rattle.magnetron.specs.declared.buffer.BufferIndex.TheVariants.{External, Internal}
@@ -30,9 +31,9 @@ use Rattle.magnetron.specs.declared.pool.Pools.{Pools}
 use Rattle.magnetron.specs.declared.inputs.Inputs.{Inputs}
 use Rattle.magnetron.specs.declared.inputs.Inputs.TheVariants.{Nothing, One, Two}
 use Rattle.magnetron.specs.declared.source.Source.TheVariants.{Other}
-use Rattle.magnetron.specs.declared.write.OutLevel.{OutLevel}
 use Rattle.magnetron.proofs.Bridge.{part_tab, zip_tab}
 use Rattle.magnetron.proofs.Places.{only, former, latter}
+use Rattle.magnetron.proofs.Faults.{refused_with, accepted_none}
 use Rattle.magnetron.proofs.Told.{all_there_lem, base_small, apart_from, place-own, clear_source, heard_source, write-own}
 
 among-append : {A : Type 0} (a : A) (xs ys : List A) → Among a xs → Among a (xs ++ ys)
@@ -102,16 +103,22 @@ module _ {p : Pools} {inputs : Inputs} {own other values : List Float} {output :
 -- ---- what is left of a single write
 
 module _ (l : Lent) (inputs : Inputs) (values : List Float) where
-  pub write-refused : (output : BufferIndex) (level : OutLevel) (v : Verdict) → v ≡ verdict_of (write_fault l inputs values output) → v.number ≢ 0
-      → after_write (refused_by v l.pools) l.internal l.external ≡ write_of l inputs values output level
+  pub write-refused : (output : BufferIndex) (level : Option Float) (r : Refusal) → verdict_of (write_fault l inputs values output) ≡ Err r
+      → after_write (record { answer = Err r; pools = l.pools }) l.internal l.external ≡ write_of l inputs values output level
   unfolding write_of
-  write-refused output level v e h = rw (rejected _ _ e h, e)
+  write-refused output level r e = go (write_fault l inputs values output) e
+    where
+      after : Banks
+      after = put_into (shape_in l) inputs values output (level_of level) (banks_in l)
+
+      go : (o : found.Option Reason) → verdict_of o ≡ Err r → after_write (record { answer = Err r; pools = l.pools }) l.internal l.external ≡ left_by o l output after
+      go o e = let q = refused_with o r e in rw (q.1) (ap (λ (f : Refusal). after_write (record { answer = Err f; pools = l.pools }) l.internal l.external) q.2)
 
   -- of a write to `output`, which is `o`
-  pub write_done : {output : BufferIndex} (level : OutLevel) (o : BufferIndex) → output ≡ o → passed (write_fault l inputs values output) ≡ true → (after : List Float)
+  pub write_done : {output : BufferIndex} (level : Option Float) (o : BufferIndex) → output ≡ o → verdict_of (write_fault l inputs values output) ≡ Ok tt → (after : List Float)
       → sided output after (pick o l.external l.internal) (cleared output (marks_in l.pools))
       ≡ put_into (shape_in l) inputs values output (level_of level) (sided output (pick o l.internal l.external) (pick o l.external l.internal) (marks_in l.pools))
       → after_write (written_to output l.pools (cleared output (marks_in l.pools))) (pick o after l.internal) (pick o l.external after) ≡ write_of l inputs values output level
   unfolding write_of
-  write_done level (External k) q ok after e = rw (ok, q, ← (rw q at e))
-  write_done level (Internal k) q ok after e = rw (ok, q, ← (rw q at e))
+  write_done level (External k) q ok after e = rw (accepted_none _ ok, q, ← (rw q at e))
+  write_done level (Internal k) q ok after e = rw (accepted_none _ ok, q, ← (rw q at e))
