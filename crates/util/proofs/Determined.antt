@@ -8,16 +8,17 @@ use prog.Routine.{Routine}
 use types.Logic.{Logic}
 use contract.Monad.{Fun, fact}
 use contract.Lifetimes.{Lfts}
+use denote.RattleType.{RattleType}
+use denote.Param.Laws.{Laws, IsCopy}
+use mir.Syntax.{Dict}
 use Rattle.numbers.specs.Outcome.{Answer, Determined, as_follows, by_definition, outcome}
 use Rattle.answers.specs.declared.verdict.Verdict.{Verdict}
 use Rattle.util.specs.declared.delay_line.Cursor.{Cursor}
-use Rattle.util.specs.declared.soft_clip.SoftClip.{SoftClip}
-use Rattle.util.specs.declared.low_pass.OnePoleLowPass.{OnePoleLowPass}
-use Rattle.util.specs.declared.interaction.LowPassGain.{LowPassGain}
-use Rattle.util.specs.declared.interaction.AnyInteraction.{AnyInteraction}
 use Rattle.util.specs.DelayLine.{advanced_there}
 use Rattle.util.specs.Interaction.{Step}
-use Rattle.util.specs.Comb.{Comb}
+use Rattle.util.specs.Comb.{RingedComb}
+use Rattle.util.specs.declared.interaction.Interaction as interaction
+use Rattle.std.specs.declared.clone.Clone as clone
 use Rattle.util.proofs.reach.number.Reads as reach-number
 use Rattle.util.proofs.delay_line.delay_at.Reads as delay-at
 use Rattle.util.proofs.delay_line.Cursor.advance.Reads as advance
@@ -25,25 +26,28 @@ use Rattle.util.proofs.delay_line.Cursor.write.Reads as write
 use Rattle.util.proofs.delay_line.Cursor.get_delayed.Reads as get-delayed
 use Rattle.util.proofs.delay_line.Cursor.get_delayed_fract.Reads as get-delayed-fract
 use Rattle.util.proofs.delay_line.Cursor.mute.Reads as mute
-use Rattle.util.proofs.soft_clip.SoftClip.process_sample.Reads as soft-clip
-use Rattle.util.proofs.soft_clip.SoftClip.delay_samples.Reads as soft-clip-delay
-use Rattle.util.proofs.soft_clip.SoftClip.mute.Reads as soft-clip-mute
+use Rattle.util.proofs.soft_clip.SoftClipInteraction.process_sample.Reads as soft-clip
+use Rattle.util.proofs.soft_clip.SoftClipInteraction.delay_samples.Reads as soft-clip-delay
+use Rattle.util.proofs.soft_clip.SoftClipInteraction.mute.Reads as soft-clip-mute
 use Rattle.util.proofs.low_pass.damping.Reads as damping
 use Rattle.util.proofs.low_pass.OnePoleLowPass.new.Reads as low-pass-new
 use Rattle.util.proofs.low_pass.OnePoleLowPass.set_cutoff.Reads as low-pass-cutoff
-use Rattle.util.proofs.low_pass.OnePoleLowPass.process_sample.Reads as low-pass
-use Rattle.util.proofs.low_pass.OnePoleLowPass.delay_samples.Reads as low-pass-delay
-use Rattle.util.proofs.low_pass.OnePoleLowPass.mute.Reads as low-pass-mute
-use Rattle.util.proofs.interaction.LowPassGain.process_sample.Reads as low-pass-gain
-use Rattle.util.proofs.interaction.LowPassGain.delay_samples.Reads as low-pass-gain-delay
-use Rattle.util.proofs.interaction.LowPassGain.mute.Reads as low-pass-gain-mute
-use Rattle.util.proofs.interaction.AnyInteraction.process_sample.Reads as any
-use Rattle.util.proofs.interaction.AnyInteraction.delay_samples.Reads as any-delay
-use Rattle.util.proofs.interaction.AnyInteraction.mute.Reads as any-mute
-use Rattle.util.proofs.comb_filter.CombFilter.process_sample.Reads as comb
-use Rattle.util.proofs.comb_filter.CombFilter.process_sample_fract.Reads as comb-fract
-use Rattle.util.proofs.comb_filter.CombFilter.mute.Reads as comb-mute
-use Rattle.util.proofs.comb_filter.TunedComb.process_sample_at.Reads as tuned
+use Rattle.util.proofs.low_pass.OnePoleLowPassInteraction.process_sample.Reads as low-pass
+use Rattle.util.proofs.low_pass.OnePoleLowPassInteraction.delay_samples.Reads as low-pass-delay
+use Rattle.util.proofs.low_pass.OnePoleLowPassInteraction.mute.Reads as low-pass-mute
+use Rattle.util.proofs.interaction.F64Interaction.process_sample.Reads as gain
+use Rattle.util.proofs.interaction.F64Interaction.delay_samples.Reads as gain-delay
+use Rattle.util.proofs.interaction.F64Interaction.mute.Reads as gain-mute
+use Rattle.util.proofs.interaction.FollowedByInteraction.process_sample.Reads as followed-by
+use Rattle.util.proofs.interaction.FollowedByInteraction.delay_samples.Reads as followed-by-delay
+use Rattle.util.proofs.interaction.FollowedByInteraction.mute.Reads as followed-by-mute
+use Rattle.util.proofs.interaction.AnyInteractionInteraction.process_sample.Reads as any
+use Rattle.util.proofs.interaction.AnyInteractionInteraction.delay_samples.Reads as any-delay
+use Rattle.util.proofs.interaction.AnyInteractionInteraction.mute.Reads as any-mute
+use Rattle.util.proofs.comb_filter.Comb.process_sample.Reads as comb
+use Rattle.util.proofs.comb_filter.Comb.process_sample_fract.Reads as comb-fract
+use Rattle.util.proofs.comb_filter.Comb.mute.Reads as comb-mute
+use Rattle.util.proofs.comb_filter.Comb.process_sample_at.Reads as comb-at
 use Rattle.util.proofs.all_pass.AllPassDelay.set_feedback.Reads as all-pass-feedback
 use Rattle.util.proofs.all_pass.AllPassDelay.process_sample.Reads as all_pass
 use Rattle.util.proofs.all_pass.AllPassDelay.process_sample_fract.Reads as all-pass-fract
@@ -58,42 +62,34 @@ pub delay_line_determined : Answer delay-at.Post × Answer advance.Post × Deter
 delay_line_determined = (by_definition, by_definition, by_definition, by_definition, by_definition, by_definition)
 
 pub soft_clip_determined : Answer soft-clip.Post × Answer soft-clip-delay.Post × Answer soft-clip-mute.Post
-soft_clip_determined = (
-  as_follows (λ κs a r s p. ap (λ (t : Step SoftClip). record { clip = t.next; sample = t.sample }) p),
-  by_definition,
-  by_definition,
-)
+soft_clip_determined = (by_definition, by_definition, by_definition)
 
 pub low_pass_determined : Answer damping.Post × Answer low-pass-new.Post × Answer low-pass-cutoff.Post × Answer low-pass.Post
     × Answer low-pass-delay.Post × Answer low-pass-mute.Post
-low_pass_determined = (
-  by_definition,
-  by_definition,
-  by_definition,
-  as_follows (λ κs a r s p. ap (λ (t : Step OnePoleLowPass). record { filter = t.next; sample = t.sample }) p),
-  by_definition,
-  by_definition,
-)
+low_pass_determined = (by_definition, by_definition, by_definition, by_definition, by_definition, by_definition)
 
-pub interaction_determined : Answer low-pass-gain.Post × Answer low-pass-gain-delay.Post × Answer low-pass-gain-mute.Post
-    × Answer any.Post × Answer any-delay.Post × Answer any-mute.Post
-interaction_determined = (
-  as_follows (λ κs a r s p. ap (λ (t : Step LowPassGain). record { next = t.next; sample = t.sample }) p),
-  by_definition,
-  by_definition,
-  as_follows (λ κs a r s p. ap (λ (t : Step AnyInteraction). record { next = t.next; sample = t.sample }) p),
-  by_definition,
-  by_definition,
-)
+pub interaction_determined : Answer gain.Post × Answer gain-delay.Post × Answer gain-mute.Post × Answer any.Post × Answer any-delay.Post × Answer any-mute.Post
+interaction_determined = (by_definition, by_definition, by_definition, by_definition, by_definition, by_definition)
 
-pub comb_filter_determined : Determined (λ r s. outcome r s.1.0.now) comb.Post × Determined (λ r s. outcome r s.1.0.now) comb-fract.Post
-    × Determined (λ r s. outcome r s.1.0.now) comb-mute.Post × Determined (λ r s. outcome r s.1.0.now) tuned.Post
-comb_filter_determined = (
-  by_definition,
-  by_definition,
-  by_definition,
-  as_follows (λ κs a r s p. ap (λ (t : Step (Comb LowPassGain SoftClip)). outcome (record { comb = record { cursor = record { position = t.next.position }; response = t.next.response; limit = t.next.limit }; sample = t.sample }) t.next.ring) p),
-)
+-- ---- at any two types that are interactions: of one followed by the other, and of the comb that responds through the one and writes through the other
+module _ (R L : RattleType) (r-laws : Laws R) (l-laws : Laws L) (r-copied : IsCopy R) (l-copied : IsCopy L)
+    (r : interaction.Ghosts R.Denot) (r-dict : Dict) (r-clone : clone.Ghosts R.Denot) (r-clone-dict : Dict)
+    (l : interaction.Ghosts L.Denot) (l-dict : Dict) (l-clone : clone.Ghosts L.Denot) (l-clone-dict : Dict) where
+  pub followed_by_determined : Answer (followed-by.Post R L r-laws l-laws r-copied l-copied r r-dict r-clone r-clone-dict l l-dict l-clone l-clone-dict)
+      × Answer (followed-by-delay.Post R L r-laws l-laws r-copied l-copied r r-dict r-clone r-clone-dict l l-dict l-clone l-clone-dict)
+      × Answer (followed-by-mute.Post R L r-laws l-laws r-copied l-copied r r-dict r-clone r-clone-dict l l-dict l-clone l-clone-dict)
+  followed_by_determined = (by_definition, by_definition, by_definition)
+
+  pub comb_filter_determined : Determined (λ o s. outcome o s.1.0.now) (comb.Post R L r-laws l-laws r-copied l-copied r r-dict r-clone r-clone-dict l l-dict l-clone l-clone-dict)
+      × Determined (λ o s. outcome o s.1.0.now) (comb-fract.Post R L r-laws l-laws r-copied l-copied r r-dict r-clone r-clone-dict l l-dict l-clone l-clone-dict)
+      × Determined (λ o s. outcome o s.1.0.now) (comb-mute.Post R L r-laws l-laws r-copied l-copied r r-dict r-clone r-clone-dict l l-dict l-clone l-clone-dict)
+      × Determined (λ o s. outcome o s.1.0.now) (comb-at.Post R L r-laws l-laws r-copied l-copied r r-dict r-clone r-clone-dict l l-dict l-clone l-clone-dict)
+  comb_filter_determined = (
+    by_definition,
+    by_definition,
+    by_definition,
+    as_follows (λ κs a o s p. ap (λ (t : Step (RingedComb R.Denot L.Denot)). outcome (record { next = record { cursor = record { position = t.next.position }; response = t.next.response; limit = t.next.limit }; sample = t.sample }) t.next.ring) p),
+  )
 
 pub all_pass_determined : Answer all-pass-feedback.Post × Determined (λ r s. outcome r s.1.0.now) all_pass.Post
     × Determined (λ r s. outcome r s.1.0.now) all-pass-fract.Post × Determined (λ r s. outcome r s.1.0.now) all-pass-mute.Post

@@ -6,10 +6,12 @@ use Rattle.util.specs.declared.reach.Reach.TheVariants.{Within}
 use Rattle.util.specs.declared.delay_line.Cursor.{Cursor}
 use Rattle.util.specs.declared.delay_line.Read.TheVariants.{Whole, Fract}
 use Rattle.util.specs.declared.interaction.AnyInteraction.TheVariants.{Gain}
-use Rattle.util.specs.declared.comb_filter.CombFilter.{CombFilter}
+use Rattle.util.specs.declared.comb_filter.Comb.{Comb}
+use Rattle.util.specs.declared.interaction.AnyInteraction.{AnyInteraction}
 use Rattle.util.specs.declared.all_pass.AllPassDelay.{AllPassDelay}
 use Rattle.util.specs.DelayLine.{done, tapped}
-use Rattle.util.specs.Interaction.{Step, step}
+use Rattle.util.specs.declared.step.Step.{Step}
+use Rattle.util.specs.Interaction.{step, any_interaction}
 use Rattle.util.specs.Comb.{combed}
 use Rattle.util.specs.AllPass.{passed}
 
@@ -34,9 +36,9 @@ all_pass_step s x =
     let o = passed Whole s.filter s.ring x in
     step (record { filter = o.result.delay; ring = o.contents }) o.result.sample
 
-abbrev comb_step : Lent CombFilter → Float → Step (Lent CombFilter)
+abbrev comb_step : Lent (Comb AnyInteraction AnyInteraction) → Float → Step (Lent (Comb AnyInteraction AnyInteraction))
 comb_step s x =
-    let o = combed Whole s.filter s.ring x in
+    let o = combed any_interaction any_interaction Whole s.filter s.ring x in
     step (record { filter = o.result.comb; ring = o.contents }) o.result.sample
 
 -- what is answered to each of a list of inputs, in turn

@@ -7,7 +7,7 @@ use Rattle.numbers.specs.Small.{max_of, abs_of, copysign_of}
 pub use Rattle.util.specs.declared.step.Step.{Step}
 use Rattle.util.specs.declared.soft_clip.SoftClip.{SoftClip}
 use Rattle.util.specs.declared.low_pass.OnePoleLowPass.{OnePoleLowPass}
-use Rattle.util.specs.declared.interaction.LowPassGain.{LowPassGain}
+use Rattle.util.specs.declared.interaction.FollowedBy.{FollowedBy}
 use Rattle.util.specs.declared.interaction.AnyInteraction.{AnyInteraction}
 use Rattle.util.specs.declared.interaction.AnyInteraction.TheVariants as any
 
@@ -58,12 +58,8 @@ low_pass_of = record {
 
 -- ---- one after the other
 
-pub record Both (S T : Type 0) : Type 0 where
-  pub first : S
-  pub second : T
-
 -- "followed_by runs first, then second."
-abbrev pub followed_by : {S T : Type 0} → Interaction S → Interaction T → Interaction (Both S T)
+abbrev pub followed_by : {S T : Type 0} → Interaction S → Interaction T → Interaction (FollowedBy S T)
 followed_by f g = record {
   process = λ s x.
       let a = f.process s.first x in
@@ -73,21 +69,16 @@ followed_by f g = record {
   mute = λ s. record { first = f.mute s.first; second = g.mute s.second };
 }
 
+-- a low-pass followed by a gain: how a waveguide responds
+abbrev pub LowPassGain : Type 0
+LowPassGain = FollowedBy OnePoleLowPass Float
+
+abbrev pub low_pass_gain : Interaction LowPassGain
+low_pass_gain = followed_by low_pass_of gain
+
 -- the step of another state
 abbrev pub over : {S T : Type 0} → (S → T) → Step S → Step T
 over to s = step (to s.next) s.sample
-
--- an interaction whose state is another record of the same parts
-abbrev pub through : {S T : Type 0} → (S → T) → (T → S) → Interaction S → Interaction T
-through to from f = record {
-  process = λ s x. over to (f.process (from s) x);
-  delay = λ s. f.delay (from s);
-  mute = λ s. to (f.mute (from s));
-}
-
-abbrev pub low_pass_gain : Interaction LowPassGain
-low_pass_gain =
-    through (λ b. record { first = b.first; second = b.second }) (λ p. record { first = p.first; second = p.second }) (followed_by low_pass_of gain)
 
 -- ---- those that a comb takes, by name: as its response, or as its limit
 

@@ -5,8 +5,9 @@ ghost use Rattle.util.specs.declared.delay_line.Read.TheVariants as read;
 ghost use Rattle.util.specs.DelayLine.{muted};
 ghost use Rattle.util.specs.AllPass.{passed, fed_back};
 
-use crate::delay_line::{Cursor, Read, delayed_sample, in_ring, slot_after};
+use crate::delay_line::{Cursor, Read, in_ring, slot_after};
 use crate::reach::Reach;
+use crate::reading::Reading;
 use answers::verdict::{Verdict, done, refusal};
 
 #[derive(Clone, Copy)]
@@ -54,6 +55,7 @@ impl AllPassDelay {
         cursor.mute(ring)
     }
 
+    #[tactic(auto, using(crate::proofs::Ring::within), unfolding(crate::specs::AllPass::passed))]
     fn process(mut self, ring: &mut [f64], read: Read, input: f64) -> Passed
         ensures { outcome result ring.new ≡ passed read self ring.old input }
     {
@@ -68,16 +70,15 @@ impl AllPassDelay {
             };
         }
         let at = slot_after(slots, position);
-        let delayed = delayed_sample(ring, at, read);
-        let remembered = input + self.feedback * delayed.sample;
+        let delayed = read.read(ring, at);
+        let remembered = input + self.feedback * delayed;
         ring[at] = remembered;
         self.cursor.position = at;
-        let reach = delayed.reach;
         Passed {
             verdict: done(),
             delay: self,
-            sample: delayed.sample - remembered * self.feedback,
-            reach,
+            sample: delayed - remembered * self.feedback,
+            reach: read.reach(),
         }
     }
 }

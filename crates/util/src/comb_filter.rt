@@ -1,56 +1,80 @@
-// The comb filter over a ring that the host lends: with any response and limit, and with those of a waveguide.
+// The comb filter over a ring that the host lends: at any response and any limit.
 ghost use Rattle.std.specs.Prelude.{◌≡◌, ◌<◌, ◌≤◌, length};
 ghost use Rattle.numbers.specs.Outcome.{outcome};
 ghost use Rattle.util.specs.declared.delay_line.Read.TheVariants as read;
+ghost use Rattle.util.specs.DelayLine.{delayed_by};
 ghost use Rattle.util.specs.Interaction.{step};
-ghost use Rattle.util.specs.Comb.{combed, comb_muted, tuned_over, tuned_step};
+ghost use Rattle.util.specs.Comb.{comb, comb_over, combed, comb_muted};
 
-use crate::delay_line::{Cursor, Delay, Read, delayed_sample, in_ring, slot_after, tap_at};
-use crate::interaction::{AnyInteraction, LowPassGain};
+use crate::delay_line::{Cursor, Delay, Read, in_ring, slot_after};
+use crate::interaction::{AnyInteraction, Interaction, LowPassGain};
 use crate::reach::Reach;
+use crate::reading::Reading;
 use crate::soft_clip::SoftClip;
+use crate::step::Step;
 use answers::verdict::{Verdict, done, refusal};
 use answers::zeros::fill_with_zeros;
 
+// What it answers it makes of the delayed sample by its response; what it writes goes through its limit.
 #[derive(Clone, Copy)]
-pub struct CombFilter {
+pub struct Comb<R, L> {
     pub cursor: Cursor,
-    pub response: AnyInteraction,
-    pub limit: AnyInteraction,
+    pub response: R,
+    pub limit: L,
 }
 
+// Any response, and any limit.
+pub type CombFilter = Comb<AnyInteraction, AnyInteraction>;
+
+// A waveguide's comb.
+pub type TunedComb = Comb<LowPassGain, SoftClip>;
+
 #[derive(Clone, Copy)]
-pub struct Combed {
+pub struct Combed<R, L> {
     pub verdict: Verdict,
-    pub comb: CombFilter,
+    pub comb: Comb<R, L>,
     pub sample: f64,
     pub reach: Reach,
 }
 
 #[derive(Clone, Copy)]
-pub struct Muted {
+pub struct Muted<R, L> {
     pub verdict: Verdict,
-    pub comb: CombFilter,
+    pub comb: Comb<R, L>,
 }
 
-impl CombFilter {
+impl<R: Interaction, L: Interaction> Comb<R, L> {
     // At the whole delay.
-    pub fn process_sample(self, ring: &mut [f64], input: f64) -> Combed
-        ensures { outcome result ring.new ≡ combed read.Whole self ring.old input }
+    pub fn process_sample(self, ring: &mut [f64], input: f64) -> Combed<R, L>
+        ensures { outcome result ring.new ≡ combed R.means L.means read.Whole self ring.old input }
     {
         self.process(ring, Read::Whole, input)
     }
 
     // At the delay of a fraction of the ring's length.
-    pub fn process_sample_fract(self, ring: &mut [f64], fract_offset: f64, input: f64) -> Combed
-        ensures { outcome result ring.new ≡ combed (read.Fract fract_offset) self ring.old input }
+    pub fn process_sample_fract(
+        self,
+        ring: &mut [f64],
+        fract_offset: f64,
+        input: f64,
+    ) -> Combed<R, L>
+        ensures { outcome result ring.new ≡ combed R.means L.means (read.Fract fract_offset) self ring.old input }
     {
         self.process(ring, Read::Fract(fract_offset), input)
     }
 
+    // At a delay that was worked out before. This runs for each sample of a string.
+    pub fn process_sample_at(self, ring: &mut [f64], delay: Delay, input: f64) -> Step<Comb<R, L>>
+        requires { (self.cursor.position < length ring.old) × (length ring.old ≤ 32768) × (delay.whole < length ring.old) }
+        ensures { step (comb_over result.next ring.new) result.sample ≡ comb R.means L.means (delayed_by delay) (comb_over self ring.old) input }
+    {
+        self.step(ring, delay, input)
+    }
+
     // Silence in the ring, the response and the limit. The position stays.
-    pub fn mute(self, ring: &mut [f64]) -> Muted
-        ensures { outcome result ring.new ≡ comb_muted self ring.old }
+    #[tactic(auto, unfolding(crate::specs::Comb::comb_muted))]
+    pub fn mute(self, ring: &mut [f64]) -> Muted<R, L>
+        ensures { outcome result ring.new ≡ comb_muted R.means L.means self ring.old }
     {
         if !in_ring(self.cursor.position, ring.len()) {
             return Muted {
@@ -59,25 +83,21 @@ impl CombFilter {
             };
         }
         fill_with_zeros(ring);
-        let cursor = self.cursor;
-        let response = self.response;
-        let limit = self.limit;
         Muted {
             verdict: done(),
-            comb: CombFilter {
-                cursor,
-                response: response.mute(),
-                limit: limit.mute(),
+            comb: Comb {
+                cursor: self.cursor,
+                response: self.response.mute(),
+                limit: self.limit.mute(),
             },
         }
     }
 
-    fn process(self, ring: &mut [f64], read: Read, input: f64) -> Combed
-        ensures { outcome result ring.new ≡ combed read self ring.old input }
+    #[tactic(auto, using(crate::proofs::Ring::within), unfolding(crate::specs::Comb::combed))]
+    fn process(self, ring: &mut [f64], read: Read, input: f64) -> Combed<R, L>
+        ensures { outcome result ring.new ≡ combed R.means L.means read self ring.old input }
     {
-        let slots = ring.len();
-        let position = self.cursor.position;
-        if !in_ring(position, slots) {
+        if !in_ring(self.cursor.position, ring.len()) {
             return Combed {
                 verdict: refusal(4),
                 comb: self,
@@ -85,65 +105,33 @@ impl CombFilter {
                 reach: Reach::Within,
             };
         }
-        let at = slot_after(slots, position);
-        let delayed = delayed_sample(ring, at, read);
-        let response = self.response;
-        let responded = response.process_sample(delayed.sample);
-        let limit = self.limit;
-        let limited = limit.process_sample(responded.sample + input);
-        ring[at] = limited.sample;
-        let response = responded.next;
-        let limit = limited.next;
-        let reach = delayed.reach;
+        let stepped = self.step(ring, read, input);
         Combed {
             verdict: done(),
-            comb: CombFilter {
-                cursor: Cursor { position: at },
-                response,
-                limit,
-            },
-            sample: responded.sample,
-            reach,
+            comb: stepped.next,
+            sample: stepped.sample,
+            reach: read.reach(),
         }
     }
-}
 
-// A waveguide's comb: its response is a low-pass followed by a gain, its limit a soft clip.
-#[derive(Clone, Copy)]
-pub struct TunedComb {
-    pub cursor: Cursor,
-    pub response: LowPassGain,
-    pub limit: SoftClip,
-}
-
-#[derive(Clone, Copy)]
-pub struct Tuned {
-    pub comb: TunedComb,
-    pub sample: f64,
-}
-
-impl TunedComb {
-    // At a delay that was worked out before. This runs for each sample.
-    pub fn process_sample_at(self, ring: &mut [f64], delay: Delay, input: f64) -> Tuned
-        requires { (self.cursor.position < length ring.old) × (length ring.old ≤ 32768) × (delay.whole < length ring.old) }
-        ensures { step (tuned_over result.comb ring.new) result.sample ≡ tuned_step delay self ring.old input }
+    // One sample, at any reading of the ring.
+    #[tactic(auto, unfolding(crate::specs::Comb::comb))]
+    fn step<D: Reading>(self, ring: &mut [f64], reading: D, input: f64) -> Step<Comb<R, L>>
+        requires { (self.cursor.position < length ring.old) × (length ring.old ≤ 32768) × D.fits reading (length ring.old) }
+        ensures { step (comb_over result.next ring.new) result.sample ≡ comb R.means L.means (D.reads reading) (comb_over self ring.old) input }
     {
         let at = slot_after(ring.len(), self.cursor.position);
-        let delayed = tap_at(ring, at, delay);
-        let response = self.response;
-        let gained = response.process_sample(delayed);
-        let limit = self.limit;
-        let clipped = limit.process_sample(gained.sample + input);
-        ring[at] = clipped.sample;
-        let response = gained.next;
-        let limit = clipped.clip;
-        Tuned {
-            comb: TunedComb {
+        let delayed = reading.read(ring, at);
+        let responded = self.response.process_sample(delayed);
+        let limited = self.limit.process_sample(responded.sample + input);
+        ring[at] = limited.sample;
+        Step {
+            next: Comb {
                 cursor: Cursor { position: at },
-                response,
-                limit,
+                response: responded.next,
+                limit: limited.next,
             },
-            sample: gained.sample,
+            sample: responded.sample,
         }
     }
 }

@@ -2,9 +2,10 @@
 ghost use Rattle.std.specs.Prelude.{◌≡◌, ◌+◌, ◌-◌, ◌%◌, ◌<◌, ◌≤◌, length};
 ghost use Rattle.numbers.specs.Outcome.{outcome};
 ghost use Rattle.util.specs.declared.delay_line.Read.TheVariants as read;
-ghost use Rattle.util.specs.DelayLine.{in_ring, next_slot, delayed_by, delay_at, reading_of, reach_in, advanced, tapped, slot_written, muted};
+ghost use Rattle.util.specs.DelayLine.{in_ring, next_slot, delayed_by, delay_at, reach_in, advanced, tapped, slot_written, muted};
 
 use crate::reach::{Reach, reach_of};
+use crate::reading::Reading;
 use answers::verdict::{Verdict, done, refusal};
 use answers::zeros::fill_with_zeros;
 
@@ -41,13 +42,6 @@ pub struct Delay {
 pub enum Read {
     Whole,
     Fract(f64),
-}
-
-// What a read answers in a ring.
-#[derive(Clone, Copy)]
-pub(crate) struct Delayed {
-    pub sample: f64,
-    pub reach: Reach,
 }
 
 // Whether a single operation on a ring is not refused.
@@ -116,29 +110,21 @@ pub(crate) fn tap_at(ring: &[f64], position: usize, delay: Delay) -> f64
     (1.0 - delay.rest) * ring[first] + delay.rest * ring[second]
 }
 
-// The sample that a ring gives at a position. The whole delay is within any ring.
-pub(crate) fn delayed_sample(ring: &[f64], position: usize, read: Read) -> Delayed
-    requires { (position < length ring.now) × (length ring.now ≤ 32768) }
-    ensures { (result.sample ≡ reading_of read ring.now position) × (result.reach ≡ reach_in read) }
-{
-    match read {
-        Read::Whole => {
-            let next = slot_after(ring.len(), position);
-            let sample = ring[next];
-            let reach = Reach::Within;
-            Delayed { sample, reach }
-        }
-        Read::Fract(fract_offset) => {
-            let delay = delay_at(ring.len(), fract_offset);
-            let reach = delay.reach;
-            let sample = tap_at(ring, position, delay);
-            Delayed { sample, reach }
+impl Read {
+    // Whether the ring reaches as far as is asked. The whole delay is within any ring.
+    pub(crate) fn reach(self) -> Reach
+        ensures { result ≡ reach_in self }
+    {
+        match self {
+            Read::Whole => Reach::Within,
+            Read::Fract(fract_offset) => reach_of(fract_offset),
         }
     }
 }
 
 impl Cursor {
     // One slot round the ring.
+    #[tactic(auto, using(crate::proofs::Ring::within), unfolding(crate::specs::DelayLine::advanced))]
     pub fn advance(mut self, slots: usize) -> Moved
         ensures { result ≡ advanced self slots }
     {
@@ -156,6 +142,7 @@ impl Cursor {
     }
 
     // Stores a sample at the position.
+    #[tactic(auto, using(crate::proofs::Ring::within), unfolding(crate::specs::DelayLine::slot_written))]
     pub fn write(self, ring: &mut [f64], sample: f64) -> Verdict
         ensures { outcome result ring.new ≡ slot_written self ring.old sample }
     {
@@ -181,6 +168,7 @@ impl Cursor {
         self.get(ring, Read::Fract(fract_offset))
     }
 
+    #[tactic(auto, using(crate::proofs::Ring::within), unfolding(crate::specs::DelayLine::tapped))]
     fn get(self, ring: &[f64], read: Read) -> Tapped
         ensures { result ≡ tapped read self ring.now }
     {
@@ -191,16 +179,15 @@ impl Cursor {
                 reach: Reach::Within,
             };
         }
-        let delayed = delayed_sample(ring, self.position, read);
-        let reach = delayed.reach;
         Tapped {
             verdict: done(),
-            sample: delayed.sample,
-            reach,
+            sample: read.read(ring, self.position),
+            reach: read.reach(),
         }
     }
 
     // Each slot is 0.0, and the position stays.
+    #[tactic(auto, unfolding(crate::specs::DelayLine::muted))]
     pub fn mute(self, ring: &mut [f64]) -> Verdict
         ensures { outcome result ring.new ≡ muted self ring.old }
     {

@@ -1,56 +1,87 @@
-// Interactions by name: a low-pass followed by a gain, and any of those that a comb takes as its response or its limit. A gain is an f64.
+// Interactions: what makes a sample of a sample and remembers. A gain is an f64; two follow one another; and those that a comb takes have names.
 ghost use Rattle.std.specs.Prelude.{◌≡◌};
-ghost use Rattle.util.specs.Interaction.{step, low_pass_gain, any_interaction};
+ghost use Rattle.util.specs.Interaction.{Interaction, gain, followed_by, any_interaction};
 
 use crate::low_pass::OnePoleLowPass;
 use crate::soft_clip::SoftClip;
+use crate::step::Step;
 
-// A low-pass followed by a gain.
-#[derive(Clone, Copy)]
-pub struct LowPassGain {
-    pub first: OnePoleLowPass,
-    pub second: f64,
+pub trait Interaction: Copy {
+    // What it makes of a sample, its delay, and what muting leaves of it.
+    ghost means: { Interaction Self };
+
+    // The sample that it makes of the input, and what it is for the next one.
+    fn process_sample(self, input: f64) -> Step<Self>
+        ensures { result ≡ means.process self input };
+
+    // Its delay in samples.
+    fn delay_samples(self) -> f64
+        ensures { result ≡ means.delay self };
+
+    // The same, with nothing remembered.
+    fn mute(self) -> Self
+        ensures { result ≡ means.mute self };
 }
 
-#[derive(Clone, Copy)]
-pub struct LowPassGained {
-    pub next: LowPassGain,
-    pub sample: f64,
-}
+// A gain: its samples come at once, and it remembers nothing.
+impl Interaction for f64 {
+    ghost means = { gain };
 
-impl LowPassGain {
-    // The low-passed sample times the gain.
-    pub fn process_sample(mut self, input: f64) -> LowPassGained
-        ensures { step result.next result.sample ≡ low_pass_gain.process self input }
-    {
-        let first = self.first;
-        let filtered = first.process_sample(input);
-        let filter = filtered.filter;
-        self.first = filter;
-        LowPassGained {
+    fn process_sample(self, input: f64) -> Step<f64> {
+        Step {
             next: self,
-            sample: self.second * filtered.sample,
+            sample: self * input,
         }
     }
 
-    // The low-pass's delay in samples, and the gain's, which is none.
-    pub fn delay_samples(self) -> f64
-        ensures { result ≡ low_pass_gain.delay self }
-    {
-        let first = self.first;
-        first.delay_samples() + 0.0
+    fn delay_samples(self) -> f64 {
+        0.0
     }
 
-    // The low-pass forgets, and the gain stays.
-    pub fn mute(mut self) -> LowPassGain
-        ensures { result ≡ low_pass_gain.mute self }
-    {
-        let first = self.first;
-        let muted = first.mute();
-        self.first = muted;
+    fn mute(self) -> f64 {
         self
     }
 }
+
+// One interaction, and then another.
+#[derive(Clone, Copy)]
+pub struct FollowedBy<A, B> {
+    pub first: A,
+    pub second: B,
+}
+
+impl<A: Interaction, B: Interaction> Interaction for FollowedBy<A, B> {
+    ghost means = { followed_by A.means B.means };
+
+    // What the second makes of the first's sample.
+    fn process_sample(self, input: f64) -> Step<FollowedBy<A, B>> {
+        let first = self.first.process_sample(input);
+        let second = self.second.process_sample(first.sample);
+        Step {
+            next: FollowedBy {
+                first: first.next,
+                second: second.next,
+            },
+            sample: second.sample,
+        }
+    }
+
+    // Both delays.
+    fn delay_samples(self) -> f64 {
+        self.first.delay_samples() + self.second.delay_samples()
+    }
+
+    // Both forget.
+    fn mute(self) -> FollowedBy<A, B> {
+        FollowedBy {
+            first: self.first.mute(),
+            second: self.second.mute(),
+        }
+    }
+}
+
+// A low-pass followed by a gain: how a waveguide responds.
+pub type LowPassGain = FollowedBy<OnePoleLowPass, f64>;
 
 // What a comb answers through, or writes through.
 #[derive(Clone, Copy)]
@@ -60,60 +91,34 @@ pub enum AnyInteraction {
     LowPassGain(LowPassGain),
 }
 
-#[derive(Clone, Copy)]
-pub struct Interacted {
-    pub next: AnyInteraction,
-    pub sample: f64,
-}
+impl Interaction for AnyInteraction {
+    ghost means = { any_interaction };
 
-impl AnyInteraction {
-    // The sample that it makes of the input, and what it is for the next one.
-    pub fn process_sample(self, input: f64) -> Interacted
-        ensures { step result.next result.sample ≡ any_interaction.process self input }
-    {
+    fn process_sample(self, input: f64) -> Step<AnyInteraction> {
         match self {
-            AnyInteraction::Gain(factor) => Interacted {
-                next: self,
-                sample: factor * input,
-            },
-            AnyInteraction::SoftClip(clip) => {
-                let clipped = clip.process_sample(input);
-                let clip = clipped.clip;
-                Interacted {
-                    next: AnyInteraction::SoftClip(clip),
-                    sample: clipped.sample,
-                }
-            }
-            AnyInteraction::LowPassGain(filter) => {
-                let gained = filter.process_sample(input);
-                let filter = gained.next;
-                Interacted {
-                    next: AnyInteraction::LowPassGain(filter),
-                    sample: gained.sample,
-                }
-            }
+            AnyInteraction::Gain(factor) => factor.process_sample(input).map(AnyInteraction::Gain),
+            AnyInteraction::SoftClip(clip) => clip
+                .process_sample(input)
+                .map(AnyInteraction::SoftClip),
+            AnyInteraction::LowPassGain(pair) => pair
+                .process_sample(input)
+                .map(AnyInteraction::LowPassGain),
         }
     }
 
-    // Its delay in samples.
-    pub fn delay_samples(self) -> f64
-        ensures { result ≡ any_interaction.delay self }
-    {
+    fn delay_samples(self) -> f64 {
         match self {
-            AnyInteraction::Gain(_) => 0.0,
+            AnyInteraction::Gain(factor) => factor.delay_samples(),
             AnyInteraction::SoftClip(clip) => clip.delay_samples(),
-            AnyInteraction::LowPassGain(filter) => filter.delay_samples(),
+            AnyInteraction::LowPassGain(pair) => pair.delay_samples(),
         }
     }
 
-    // The same, with nothing remembered.
-    pub fn mute(self) -> AnyInteraction
-        ensures { result ≡ any_interaction.mute self }
-    {
+    fn mute(self) -> AnyInteraction {
         match self {
-            AnyInteraction::Gain(_) => self,
+            AnyInteraction::Gain(factor) => AnyInteraction::Gain(factor.mute()),
             AnyInteraction::SoftClip(clip) => AnyInteraction::SoftClip(clip.mute()),
-            AnyInteraction::LowPassGain(filter) => AnyInteraction::LowPassGain(filter.mute()),
+            AnyInteraction::LowPassGain(pair) => AnyInteraction::LowPassGain(pair.mute()),
         }
     }
 }

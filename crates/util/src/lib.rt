@@ -8,5 +8,6 @@ pub mod interaction;
 pub mod lent;
 pub mod low_pass;
 pub mod reach;
+mod reading;
 pub mod soft_clip;
 pub mod step;

@@ -1,7 +1,10 @@
 // The one-pole low-pass: its state goes in by value and comes back with the sample.
 ghost use Rattle.std.specs.Prelude.{◌≡◌};
 ghost use Rattle.numbers.specs.Constants.{zero64};
-ghost use Rattle.util.specs.Interaction.{step, low_pass_of, low_pass_at, damping_of};
+ghost use Rattle.util.specs.Interaction.{low_pass_of, low_pass_at, damping_of};
+
+use crate::interaction::Interaction;
+use crate::step::Step;
 
 const TAU: f64 = 6.283185307179586;
 
@@ -9,12 +12,6 @@ const TAU: f64 = 6.283185307179586;
 pub struct OnePoleLowPass {
     pub damping: f64,
     pub state: f64,
-}
-
-#[derive(Clone, Copy)]
-pub struct Filtered {
-    pub filter: OnePoleLowPass,
-    pub sample: f64,
 }
 
 // How much of the state stays in one sample, for a cutoff at a rate of samples.
@@ -29,11 +26,10 @@ impl OnePoleLowPass {
     pub fn new(cutoff: f64, rate: f64) -> OnePoleLowPass
         ensures { result ≡ low_pass_at (damping_of cutoff rate) zero64 }
     {
-        let silent = OnePoleLowPass {
-            damping: 0.0,
+        OnePoleLowPass {
+            damping: damping(cutoff, rate),
             state: 0.0,
-        };
-        silent.set_cutoff(cutoff, rate)
+        }
     }
 
     // The same state with another damping.
@@ -43,29 +39,27 @@ impl OnePoleLowPass {
         self.damping = damping(cutoff, rate);
         self
     }
+}
+
+impl Interaction for OnePoleLowPass {
+    ghost means = { low_pass_of };
 
     // The low-passed sample, and the filter with that sample remembered.
-    pub fn process_sample(mut self, input: f64) -> Filtered
-        ensures { step result.filter result.sample ≡ low_pass_of.process self input }
-    {
+    fn process_sample(mut self, input: f64) -> Step<OnePoleLowPass> {
         self.state = (1.0 - self.damping) * input + self.damping * self.state;
-        Filtered {
-            filter: self,
+        Step {
+            next: self,
             sample: self.state,
         }
     }
 
     // The filter's delay in samples, by which a waveguide is tuned.
-    pub fn delay_samples(self) -> f64
-        ensures { result ≡ low_pass_of.delay self }
-    {
+    fn delay_samples(self) -> f64 {
         self.damping / (1.0 - self.damping)
     }
 
     // The state is 0.0, and the damping stays.
-    pub fn mute(mut self) -> OnePoleLowPass
-        ensures { result ≡ low_pass_of.mute self }
-    {
+    fn mute(mut self) -> OnePoleLowPass {
         self.state = 0.0;
         self
     }

@@ -1,2 +1,0 @@
--- What the proofs of both combs use.
-mod Comb
