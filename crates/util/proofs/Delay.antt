@@ -15,7 +15,8 @@ use Rattle.util.specs.declared.reach.Reach.{Reach}
 use Rattle.util.specs.Reach.{reach_of}
 use Rattle.util.specs.declared.delay_line.Cursor.{Cursor}
 use Rattle.util.specs.declared.delay_line.Read.TheVariants.{Fract}
-use Rattle.util.specs.DelayLine.{offset_of, delay_of, delayed_by, delay_at, in_ring, done, tapped}
+use Rattle.util.specs.DelayLine.{offset_of, delay_of, delayed_by, delay_at, in_ring, answered, tapped}
+use Rattle.util.specs.Interaction.{step}
 use Rattle.util.proofs.Ring.{within}
 
 module _ (slots : ℕ) (f : Float) (small : slots ≤ 32768) where
@@ -37,7 +38,7 @@ module _ (slots : ℕ) (f : Float) (small : slots ≤ 32768) where
   delay-below h = rw (← rounds_up) (omega (arith, offset_le (slots - 1) f (omega arith)))
 
 pub delay-tapped : (f : Float) (c : Cursor) (ring : List Float) → in_ring c.position (length ring) ≡ true
-    → tapped (Fract f) c ring ≡ record { verdict = done; sample = delayed_by (delay_at (length ring) f) ring c.position; reach = (delay_at (length ring) f).reach }
+    → tapped (Fract f) c ring ≡ answered (delay_at (length ring) f).reach (step c (delayed_by (delay_at (length ring) f) ring c.position))
 unfolding tapped
 delay-tapped f c ring e =
     let t = within c.position (length ring) (sym e) refl in

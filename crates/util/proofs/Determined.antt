@@ -9,17 +9,15 @@ use types.Logic.{Logic}
 use contract.Monad.{Fun, fact}
 use contract.Lifetimes.{Lfts}
 use denote.RattleType.{RattleType}
-use denote.Param.Laws.{Laws, IsCopy}
-use mir.Syntax.{Dict}
 use Rattle.numbers.specs.Outcome.{Answer, Determined, as_follows, by_definition, outcome}
-use Rattle.answers.specs.declared.verdict.Verdict.{Verdict}
+use Rattle.std.specs.Prelude.{Result, ⊤}
+use Rattle.answers.specs.declared.refusal.Refusal.{Refusal}
 use Rattle.util.specs.declared.delay_line.Cursor.{Cursor}
 use Rattle.util.specs.DelayLine.{advanced_there}
 use Rattle.util.specs.Interaction.{Step}
 use Rattle.util.specs.Comb.{RingedComb}
-use Rattle.util.specs.declared.interaction.Interaction as interaction
-use Rattle.std.specs.declared.clone.Clone as clone
 use Rattle.util.proofs.reach.number.Reads as reach-number
+use Rattle.util.proofs.reach.U8FromReach.from.Reads as reach-from
 use Rattle.util.proofs.delay_line.delay_at.Reads as delay-at
 use Rattle.util.proofs.delay_line.Cursor.advance.Reads as advance
 use Rattle.util.proofs.delay_line.Cursor.write.Reads as write
@@ -54,8 +52,8 @@ use Rattle.util.proofs.all_pass.AllPassDelay.process_sample_fract.Reads as all-p
 use Rattle.util.proofs.all_pass.AllPassDelay.mute.Reads as all-pass-mute
 use Rattle.util.specs.contracts.lent.advance_lent as lent
 
-pub reach_determined : Answer reach-number.Post
-reach_determined = by_definition
+pub reach_determined : Answer reach-number.Post × Answer reach-from.Post
+reach_determined = (by_definition, by_definition)
 
 pub delay_line_determined : Answer delay-at.Post × Answer advance.Post × Determined (λ r s. outcome r s.1.0.now) write.Post
     × Answer get-delayed.Post × Answer get-delayed-fract.Post × Determined (λ r s. outcome r s.1.0.now) mute.Post
@@ -72,18 +70,15 @@ pub interaction_determined : Answer gain.Post × Answer gain-delay.Post × Answe
 interaction_determined = (by_definition, by_definition, by_definition, by_definition, by_definition, by_definition)
 
 -- ---- at any two types that are interactions: of one followed by the other, and of the comb that responds through the one and writes through the other
-module _ (R L : RattleType) (r-laws : Laws R) (l-laws : Laws L) (r-copied : IsCopy R) (l-copied : IsCopy L)
-    (r : interaction.Ghosts R.Denot) (r-dict : Dict) (r-clone : clone.Ghosts R.Denot) (r-clone-dict : Dict)
-    (l : interaction.Ghosts L.Denot) (l-dict : Dict) (l-clone : clone.Ghosts L.Denot) (l-clone-dict : Dict) where
-  pub followed_by_determined : Answer (followed-by.Post R L r-laws l-laws r-copied l-copied r r-dict r-clone r-clone-dict l l-dict l-clone l-clone-dict)
-      × Answer (followed-by-delay.Post R L r-laws l-laws r-copied l-copied r r-dict r-clone r-clone-dict l l-dict l-clone l-clone-dict)
-      × Answer (followed-by-mute.Post R L r-laws l-laws r-copied l-copied r r-dict r-clone r-clone-dict l l-dict l-clone l-clone-dict)
+module _ (R L : RattleType) (r1 : _) (l1 : _) (r2 : _) (l2 : _) (r3 : _) (r4 : _) (r5 : _) (r6 : _) (l3 : _) (l4 : _) (l5 : _) (l6 : _) where
+  pub followed_by_determined : Answer (followed-by.Post R L r1 l1 r2 l2 r3 r4 r5 r6 l3 l4 l5 l6)
+      × Answer (followed-by-delay.Post R L r1 l1 r2 l2 r3 r4 r5 r6 l3 l4 l5 l6) × Answer (followed-by-mute.Post R L r1 l1 r2 l2 r3 r4 r5 r6 l3 l4 l5 l6)
   followed_by_determined = (by_definition, by_definition, by_definition)
 
-  pub comb_filter_determined : Determined (λ o s. outcome o s.1.0.now) (comb.Post R L r-laws l-laws r-copied l-copied r r-dict r-clone r-clone-dict l l-dict l-clone l-clone-dict)
-      × Determined (λ o s. outcome o s.1.0.now) (comb-fract.Post R L r-laws l-laws r-copied l-copied r r-dict r-clone r-clone-dict l l-dict l-clone l-clone-dict)
-      × Determined (λ o s. outcome o s.1.0.now) (comb-mute.Post R L r-laws l-laws r-copied l-copied r r-dict r-clone r-clone-dict l l-dict l-clone l-clone-dict)
-      × Determined (λ o s. outcome o s.1.0.now) (comb-at.Post R L r-laws l-laws r-copied l-copied r r-dict r-clone r-clone-dict l l-dict l-clone l-clone-dict)
+  pub comb_filter_determined : Determined (λ o s. outcome o s.1.0.now) (comb.Post R L r1 l1 r2 l2 r3 r4 r5 r6 l3 l4 l5 l6)
+      × Determined (λ o s. outcome o s.1.0.now) (comb-fract.Post R L r1 l1 r2 l2 r3 r4 r5 r6 l3 l4 l5 l6)
+      × Determined (λ o s. outcome o s.1.0.now) (comb-mute.Post R L r1 l1 r2 l2 r3 r4 r5 r6 l3 l4 l5 l6)
+      × Determined (λ o s. outcome o s.1.0.now) (comb-at.Post R L r1 l1 r2 l2 r3 r4 r5 r6 l3 l4 l5 l6)
   comb_filter_determined = (
     by_definition,
     by_definition,
@@ -96,10 +91,10 @@ pub all_pass_determined : Answer all-pass-feedback.Post × Determined (λ r s. o
 all_pass_determined = (by_definition, by_definition, by_definition, by_definition)
 
 -- ---- of a lent cursor: the contract over what was lent and what stands there then; `lent_is` says by `refl` that what is written here is its `ensures`
-abbrev pub Lent : MutBor Cursor × ℕ → Verdict → MutBor Cursor → Type 0
+abbrev pub Lent : MutBor Cursor × ℕ → Result ⊤ Refusal → MutBor Cursor → Type 0
 Lent a r c = outcome r c.now ≡ advanced_there a.0.now a.1
 
-pub lent_is : {M : Type 1} {𝓤 : Ura M} (𝓛 : Logic 𝓤) (at_mem : Memory → SProp 𝓤) (run : Routine → Fun 𝓤) (κs : Lfts 1) (c c' : MutBor Cursor) (n : ℕ) (r : Verdict)
+pub lent_is : {M : Type 1} {𝓤 : Ura M} (𝓛 : Logic 𝓤) (at_mem : Memory → SProp 𝓤) (run : Routine → Fun 𝓤) (κs : Lfts 1) (c c' : MutBor Cursor) (n : ℕ) (r : Result ⊤ Refusal)
     → lent.ensures-1 𝓛 κs at_mem run c n (record { entry = c; exit = c' }) (record { entry = n; exit = n }) r ≡ fact 𝓤 (Lent (c, n) r c')
 lent_is 𝓛 at_mem run κs c c' n r = refl
 

@@ -9,7 +9,7 @@ use Rattle.util.specs.declared.interaction.AnyInteraction.TheVariants.{Gain}
 use Rattle.util.specs.declared.comb_filter.Comb.{Comb}
 use Rattle.util.specs.declared.interaction.AnyInteraction.{AnyInteraction}
 use Rattle.util.specs.declared.all_pass.AllPassDelay.{AllPassDelay}
-use Rattle.util.specs.DelayLine.{done, tapped}
+use Rattle.util.specs.DelayLine.{answered, tapped}
 use Rattle.util.specs.declared.step.Step.{Step}
 use Rattle.util.specs.Interaction.{step, any_interaction}
 use Rattle.util.specs.Comb.{combed}
@@ -34,12 +34,12 @@ pub record Lent (F : Type 0) : Type 0 where
 abbrev all_pass_step : Lent AllPassDelay → Float → Step (Lent AllPassDelay)
 all_pass_step s x =
     let o = passed Whole s.filter s.ring x in
-    step (record { filter = o.result.delay; ring = o.contents }) o.result.sample
+    step (record { filter = o.result.next; ring = o.contents }) o.result.sample
 
 abbrev comb_step : Lent (Comb AnyInteraction AnyInteraction) → Float → Step (Lent (Comb AnyInteraction AnyInteraction))
 comb_step s x =
     let o = combed any_interaction any_interaction Whole s.filter s.ring x in
-    step (record { filter = o.result.comb; ring = o.contents }) o.result.sample
+    step (record { filter = o.result.next; ring = o.contents }) o.result.sample
 
 -- what is answered to each of a list of inputs, in turn
 unfoldable pub answers : {S : Type 0} → (S → Float → Step S) → S → List Float → List Float
@@ -49,7 +49,7 @@ answers next s (x ∷ xs) =
     t.sample ∷ answers next t.next xs
 
 unfoldable pub Holds : Case → Type 0
-Holds (ring_read ring position f sample) = tapped (Fract f) (at position) ring ≡ record { verdict = done; sample = sample; reach = Within }
+Holds (ring_read ring position f sample) = tapped (Fract f) (at position) ring ≡ answered Within (step (at position) sample)
 Holds (all_pass_run n g xs ys) = answers all_pass_step (record { filter = record { cursor = at 0; feedback = g }; ring = replicate n zero64 }) xs ≡ ys
 Holds (comb_run n response limit xs ys) =
     answers comb_step (record { filter = record { cursor = at 0; response = Gain response; limit = Gain limit }; ring = replicate n zero64 }) xs ≡ ys

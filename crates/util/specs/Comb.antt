@@ -1,20 +1,19 @@
 -- The comb, once for any response, any limit and any reading of the ring; then what a single operation on one leaves, for any input, and the waveguide's
 -- pairing by name (01, "Delay line"). Assumes nothing.
-use Rattle.std.specs.Prelude.{ℕ, cond, List, length, replicate, slice_set, Float}
+use Rattle.std.specs.Prelude.{ℕ, cond, List, length, replicate, slice_set, Result, Ok, Float}
 use Rattle.std.specs.Float.{binary64}
 use Rattle.std.specs.Float.Ieee.{add}
 use Rattle.numbers.specs.Constants.{zero64}
 use Rattle.numbers.specs.Outcome.{Outcome, outcome}
+use Rattle.answers.specs.declared.refusal.Refusal.{Refusal}
 use Rattle.util.specs.declared.reach.Reach.{Reach}
-use Rattle.util.specs.declared.reach.Reach.TheVariants.{Within}
 use Rattle.util.specs.declared.delay_line.Delay.{Delay}
 use Rattle.util.specs.declared.delay_line.Read.{Read}
 use Rattle.util.specs.declared.step.Step.{Step}
 use Rattle.util.specs.declared.soft_clip.SoftClip.{SoftClip}
 use Rattle.util.specs.declared.comb_filter.Comb.{Comb}
-use Rattle.util.specs.declared.comb_filter.Combed.{Combed}
-use Rattle.util.specs.declared.comb_filter.Muted.{Muted}
-use Rattle.util.specs.DelayLine.{next_slot, Reading, delayed_by, reading_of, reach_in, in_ring, done, refused}
+use Rattle.util.specs.declared.answered.Answered.{Answered}
+use Rattle.util.specs.DelayLine.{next_slot, Reading, delayed_by, reading_of, reach_in, in_ring, refused, ring_refusal, answered, unanswered}
 use Rattle.util.specs.Interaction.{step, Interaction, LowPassGain, low_pass_gain, soft_clip_of}
 
 -- a comb with its ring
@@ -29,16 +28,10 @@ module _ {R L : Type 0} where
   comb_over c ring = record { ring = ring; position = c.cursor.position; response = c.response; limit = c.limit }
 
   -- a step as an operation leaves it. 02: "Comb and all-pass hand the answer on."
-  abbrev pub told : Reach → Step (RingedComb R L) → Outcome (Combed R L) (List Float)
+  abbrev pub told : Reach → Step (RingedComb R L) → Outcome (Answered (Comb R L)) (List Float)
   told reach s =
-      outcome
-      (record {
-        verdict = done;
-        comb = record { cursor = record { position = s.next.position }; response = s.next.response; limit = s.next.limit };
-        sample = s.sample;
-        reach = reach;
-      })
-      s.next.ring
+      let c = s.next in
+      outcome (answered reach (step (record { cursor = record { position = c.position }; response = c.response; limit = c.limit }) s.sample)) c.ring
 
 module _ {R L : Type 0} (response : Interaction R) (limit : Interaction L) where
   -- "Comb: advance, fb = response(delayed), write limit(fb+x), answer fb."
@@ -51,18 +44,18 @@ module _ {R L : Type 0} (response : Interaction R) (limit : Interaction L) where
 
   -- ---- single operations
 
-  unfoldable pub combed : Read → Comb R L → List Float → Float → Outcome (Combed R L) (List Float)
+  unfoldable pub combed : Read → Comb R L → List Float → Float → Outcome (Answered (Comb R L)) (List Float)
   combed read c ring x =
       cond (in_ring c.cursor.position (length ring))
       (told (reach_in read) (comb (reading_of read) (comb_over c ring) x))
-      (outcome (record { verdict = refused; comb = c; sample = zero64; reach = Within }) ring)
+      (outcome (unanswered ring_refusal c) ring)
 
   -- "mute as in util.rs": the ring, the response and the limit; the position stays
-  unfoldable pub comb_muted : Comb R L → List Float → Outcome (Muted R L) (List Float)
+  unfoldable pub comb_muted : Comb R L → List Float → Outcome (Result (Comb R L) Refusal) (List Float)
   comb_muted c ring =
       cond (in_ring c.cursor.position (length ring))
-      (outcome (record { verdict = done; comb = record { cursor = c.cursor; response = response.mute c.response; limit = limit.mute c.limit } }) (replicate (length ring) zero64))
-      (outcome (record { verdict = refused; comb = c }) ring)
+      (outcome (Ok (record { cursor = c.cursor; response = response.mute c.response; limit = limit.mute c.limit })) (replicate (length ring) zero64))
+      (outcome refused ring)
 
 -- ---- the waveguide's pairing
 

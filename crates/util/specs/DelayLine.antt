@@ -1,24 +1,24 @@
 -- The delay line over the list of a ring's slots, and what each single operation on a ring leaves, for any input (01, "Delay line" and "What a run returns").
 -- A ring's length, where no list is at hand, is its number of `slots`. Assumes nothing.
-use Rattle.std.specs.Prelude.{ℕ, ◌+◌, ◌-◌, ◌%◌, Bool, cond, ◌&&◌, List, length, replicate, pos, nat_le, nat_lt, slice_index_or, slice_set, Float}
-use Rattle.std.proofs.Math.Option.{none, some}
+use Rattle.std.specs.Prelude.{ℕ, ◌+◌, ◌-◌, ◌%◌, Bool, cond, ◌&&◌, List, length, replicate, pos, nat_le, nat_lt, slice_index_or, slice_set, Result, Ok, Err, None, ⊤, Float}
 use Rattle.std.specs.Float.{nan, binary64}
 use Rattle.std.specs.Float.Ieee.{add, sub, mul, of_int}
 use Rattle.numbers.specs.Constants.{zero64, one64}
 use Rattle.numbers.specs.Small.{held_of}
 use Rattle.numbers.specs.Ceil.{ceil_of, gap_of}
 use Rattle.numbers.specs.Outcome.{Outcome, outcome}
-use Rattle.answers.specs.Verdict.{verdict_of}
-use Rattle.answers.specs.declared.verdict.Verdict.{Verdict}
+use Rattle.answers.specs.declared.refusal.Reason.TheVariants.{Ring}
+use Rattle.answers.specs.declared.refusal.Refusal.{Refusal}
 use Rattle.util.specs.declared.reach.Reach.{Reach}
 use Rattle.util.specs.declared.reach.Reach.TheVariants.{Within}
 use Rattle.util.specs.declared.delay_line.Cursor.{Cursor}
-use Rattle.util.specs.declared.delay_line.Moved.{Moved}
-use Rattle.util.specs.declared.delay_line.Tapped.{Tapped}
+use Rattle.util.specs.declared.answered.Answered.{Answered}
+use Rattle.util.specs.declared.step.Step.{Step}
 use Rattle.util.specs.declared.delay_line.Delay.{Delay}
 use Rattle.util.specs.declared.delay_line.Read.{Read}
 use Rattle.util.specs.declared.delay_line.Read.TheVariants.{Whole, Fract}
 use Rattle.util.specs.Reach.{reach_of}
+use Rattle.util.specs.Interaction.{step}
 
 -- ---- the ring
 
@@ -73,41 +73,52 @@ unfoldable pub in_ring : ℕ → ℕ → Bool
 in_ring position slots = nat_le slots 32768 && nat_lt position slots
 
 -- "with 4 and stage 32"
-abbrev pub refused : Verdict
-refused = verdict_of (some 4)
+abbrev pub ring_refusal : Refusal
+ring_refusal = record { reason = Ring; stage = None }
 
-abbrev pub done : Verdict
-done = verdict_of none
+abbrev pub refused : {T : Type 0} → Result T Refusal
+refused = Err ring_refusal
+
+abbrev pub done : Result ⊤ Refusal
+done = Ok tt
+
+-- what an operation answers that has a sample, done or refused: "a sample they would answer is then 0.0", and nothing is out of reach
+abbrev pub answered : {S : Type 0} → Reach → Step S → Answered S
+answered reach s = record { verdict = done; next = s.next; sample = s.sample; reach = reach }
+
+abbrev pub unanswered : {S : Type 0} → Refusal → S → Answered S
+unanswered refusal s = record { verdict = Err refusal; next = s; sample = zero64; reach = Within }
 
 -- the delay of a ring of that length, and none where there is no such ring
 unfoldable pub delay_at : ℕ → Float → Delay
 delay_at slots f = cond (in_ring 0 slots) (delay_of slots f) (record { whole = 0; rest = zero64; reach = Within })
 
-unfoldable pub advanced : Cursor → ℕ → Moved
-advanced c slots =
-    cond (in_ring c.position slots)
-    (record { verdict = done; cursor = record { position = next_slot slots c.position } })
-    (record { verdict = refused; cursor = c })
+-- a refusal hands no cursor back: the one that was passed is a copy, and stays as it is
+unfoldable pub advanced : Cursor → ℕ → Result Cursor Refusal
+advanced c slots = cond (in_ring c.position slots) (Ok (record { position = next_slot slots c.position })) refused
 
 -- "where the host lent it, in a thin second form": the answer, and the cursor as it stands then
-abbrev pub advanced_there : Cursor → ℕ → Outcome Verdict Cursor
-advanced_there c slots = outcome (advanced c slots).verdict (advanced c slots).cursor
+abbrev pub left_there : Cursor → Result Cursor Refusal → Outcome (Result ⊤ Refusal) Cursor
+left_there c (Ok moved) = outcome done moved
+left_there c (Err refusal) = outcome (Err refusal) c
 
--- "a sample they would answer is then 0.0", and nothing is out of reach
-unfoldable pub tapped : Read → Cursor → List Float → Tapped
+abbrev pub advanced_there : Cursor → ℕ → Outcome (Result ⊤ Refusal) Cursor
+advanced_there c slots = left_there c (advanced c slots)
+
+unfoldable pub tapped : Read → Cursor → List Float → Answered Cursor
 tapped read c ring =
     cond (in_ring c.position (length ring))
-    (record { verdict = done; sample = reading_of read ring c.position; reach = reach_in read })
-    (record { verdict = refused; sample = zero64; reach = Within })
+    (answered (reach_in read) (step c (reading_of read ring c.position)))
+    (unanswered ring_refusal c)
 
-unfoldable pub slot_written : Cursor → List Float → Float → Outcome Verdict (List Float)
+unfoldable pub slot_written : Cursor → List Float → Float → Outcome (Result ⊤ Refusal) (List Float)
 slot_written c ring x =
     cond (in_ring c.position (length ring))
     (outcome done (slice_set ring c.position x))
     (outcome refused ring)
 
 -- "mute as in util.rs": each slot is 0.0
-unfoldable pub muted : Cursor → List Float → Outcome Verdict (List Float)
+unfoldable pub muted : Cursor → List Float → Outcome (Result ⊤ Refusal) (List Float)
 muted c ring =
     cond (in_ring c.position (length ring))
     (outcome done (replicate (length ring) zero64))

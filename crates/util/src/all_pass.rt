@@ -1,27 +1,21 @@
 // The all-pass delay over a ring that the host lends.
-ghost use Rattle.std.specs.Prelude.{◌≡◌};
+ghost use Rattle.std.specs.Prelude.{◌≡◌, length};
 ghost use Rattle.numbers.specs.Outcome.{outcome};
 ghost use Rattle.util.specs.declared.delay_line.Read.TheVariants as read;
-ghost use Rattle.util.specs.DelayLine.{muted};
-ghost use Rattle.util.specs.AllPass.{passed, fed_back};
+ghost use Rattle.util.specs.DelayLine.{reading_of, muted};
+ghost use Rattle.util.specs.AllPass.{passed, pass_on, fed_back};
 
-use crate::delay_line::{Cursor, Read, in_ring, slot_after};
-use crate::reach::Reach;
+use crate::answered::Answered;
+use crate::delay_line::{Cursor, Read};
+use crate::place::Place;
 use crate::reading::Reading;
-use answers::verdict::{Verdict, done, refusal};
+use crate::step::Step;
+use answers::refusal::Verdict;
 
 #[derive(Clone, Copy)]
 pub struct AllPassDelay {
     pub cursor: Cursor,
     pub feedback: f64,
-}
-
-#[derive(Clone, Copy)]
-pub struct Passed {
-    pub verdict: Verdict,
-    pub delay: AllPassDelay,
-    pub sample: f64,
-    pub reach: Reach,
 }
 
 impl AllPassDelay {
@@ -34,14 +28,19 @@ impl AllPassDelay {
     }
 
     // At the whole delay.
-    pub fn process_sample(self, ring: &mut [f64], input: f64) -> Passed
+    pub fn process_sample(self, ring: &mut [f64], input: f64) -> Answered<AllPassDelay>
         ensures { outcome result ring.new ≡ passed read.Whole self ring.old input }
     {
         self.process(ring, Read::Whole, input)
     }
 
     // At the delay of a fraction of the ring's length.
-    pub fn process_sample_fract(self, ring: &mut [f64], fract_offset: f64, input: f64) -> Passed
+    pub fn process_sample_fract(
+        self,
+        ring: &mut [f64],
+        fract_offset: f64,
+        input: f64,
+    ) -> Answered<AllPassDelay>
         ensures { outcome result ring.new ≡ passed (read.Fract fract_offset) self ring.old input }
     {
         self.process(ring, Read::Fract(fract_offset), input)
@@ -51,34 +50,32 @@ impl AllPassDelay {
     pub fn mute(self, ring: &mut [f64]) -> Verdict
         ensures { outcome result ring.new ≡ muted self.cursor ring.old }
     {
-        let cursor = self.cursor;
-        cursor.mute(ring)
+        self.cursor.mute(ring)
     }
 
-    #[tactic(auto, using(crate::proofs::Ring::within), unfolding(crate::specs::AllPass::passed))]
-    fn process(mut self, ring: &mut [f64], read: Read, input: f64) -> Passed
+    #[tactic(auto, unfolding(crate::specs::AllPass::passed))]
+    fn process(self, ring: &mut [f64], read: Read, input: f64) -> Answered<AllPassDelay>
         ensures { outcome result ring.new ≡ passed read self ring.old input }
     {
-        let slots = ring.len();
-        let position = self.cursor.position;
-        if !in_ring(position, slots) {
-            return Passed {
-                verdict: refusal(4),
-                delay: self,
-                sample: 0.0,
-                reach: Reach::Within,
-            };
+        match Place::of(self.cursor.position, ring.len()) {
+            Ok(place) => Answered::of(self.step(ring, place, read, input), read.reach()),
+            Err(refusal) => Answered::refused(refusal, self),
         }
-        let at = slot_after(slots, position);
+    }
+
+    // One sample, at the place of the cursor.
+    fn step(mut self, ring: &mut [f64], place: Place, read: Read, input: f64) -> Step<AllPassDelay>
+        requires { (place.position ≡ self.cursor.position) × (place.slots ≡ length ring.old) }
+        ensures { outcome result ring.new ≡ pass_on (reading_of read) self ring.old input }
+    {
+        let at = place.after();
         let delayed = read.read(ring, at);
         let remembered = input + self.feedback * delayed;
-        ring[at] = remembered;
-        self.cursor.position = at;
-        Passed {
-            verdict: done(),
-            delay: self,
+        ring[at.position] = remembered;
+        self.cursor.position = at.position;
+        Step {
+            next: self,
             sample: delayed - remembered * self.feedback,
-            reach: read.reach(),
         }
     }
 }

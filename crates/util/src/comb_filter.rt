@@ -6,14 +6,14 @@ ghost use Rattle.util.specs.DelayLine.{delayed_by};
 ghost use Rattle.util.specs.Interaction.{step};
 ghost use Rattle.util.specs.Comb.{comb, comb_over, combed, comb_muted};
 
-use crate::delay_line::{Cursor, Delay, Read, in_ring, slot_after};
+use crate::answered::Answered;
+use crate::delay_line::{Cursor, Delay, Read};
 use crate::interaction::{AnyInteraction, Interaction, LowPassGain};
-use crate::reach::Reach;
+use crate::place::Place;
 use crate::reading::Reading;
 use crate::soft_clip::SoftClip;
 use crate::step::Step;
-use answers::verdict::{Verdict, done, refusal};
-use answers::zeros::fill_with_zeros;
+use answers::refusal::Refusal;
 
 // What it answers it makes of the delayed sample by its response; what it writes goes through its limit.
 #[derive(Clone, Copy)]
@@ -29,23 +29,9 @@ pub type CombFilter = Comb<AnyInteraction, AnyInteraction>;
 // A waveguide's comb.
 pub type TunedComb = Comb<LowPassGain, SoftClip>;
 
-#[derive(Clone, Copy)]
-pub struct Combed<R, L> {
-    pub verdict: Verdict,
-    pub comb: Comb<R, L>,
-    pub sample: f64,
-    pub reach: Reach,
-}
-
-#[derive(Clone, Copy)]
-pub struct Muted<R, L> {
-    pub verdict: Verdict,
-    pub comb: Comb<R, L>,
-}
-
 impl<R: Interaction, L: Interaction> Comb<R, L> {
     // At the whole delay.
-    pub fn process_sample(self, ring: &mut [f64], input: f64) -> Combed<R, L>
+    pub fn process_sample(self, ring: &mut [f64], input: f64) -> Answered<Comb<R, L>>
         ensures { outcome result ring.new ≡ combed R.means L.means read.Whole self ring.old input }
     {
         self.process(ring, Read::Whole, input)
@@ -57,7 +43,7 @@ impl<R: Interaction, L: Interaction> Comb<R, L> {
         ring: &mut [f64],
         fract_offset: f64,
         input: f64,
-    ) -> Combed<R, L>
+    ) -> Answered<Comb<R, L>>
         ensures { outcome result ring.new ≡ combed R.means L.means (read.Fract fract_offset) self ring.old input }
     {
         self.process(ring, Read::Fract(fract_offset), input)
@@ -68,66 +54,56 @@ impl<R: Interaction, L: Interaction> Comb<R, L> {
         requires { (self.cursor.position < length ring.old) × (length ring.old ≤ 32768) × (delay.whole < length ring.old) }
         ensures { step (comb_over result.next ring.new) result.sample ≡ comb R.means L.means (delayed_by delay) (comb_over self ring.old) input }
     {
-        self.step(ring, delay, input)
+        let place = Place {
+            slots: ring.len(),
+            position: self.cursor.position,
+        };
+        self.step(ring, place, delay, input)
     }
 
-    // Silence in the ring, the response and the limit. The position stays.
-    #[tactic(auto, unfolding(crate::specs::Comb::comb_muted))]
-    pub fn mute(self, ring: &mut [f64]) -> Muted<R, L>
+    // Silence in the ring, the response and the limit. The position stays. A refusal leaves the comb, of which this is a copy, as it is.
+    #[tactic(auto, unfolding(crate::specs::Comb::comb_muted, crate::specs::DelayLine::muted))]
+    pub fn mute(mut self, ring: &mut [f64]) -> Result<Comb<R, L>, Refusal>
         ensures { outcome result ring.new ≡ comb_muted R.means L.means self ring.old }
     {
-        if !in_ring(self.cursor.position, ring.len()) {
-            return Muted {
-                verdict: refusal(4),
-                comb: self,
-            };
-        }
-        fill_with_zeros(ring);
-        Muted {
-            verdict: done(),
-            comb: Comb {
-                cursor: self.cursor,
-                response: self.response.mute(),
-                limit: self.limit.mute(),
-            },
-        }
+        self.cursor.mute(ring)?;
+        self.response = self.response.mute();
+        self.limit = self.limit.mute();
+        Ok(self)
     }
 
-    #[tactic(auto, using(crate::proofs::Ring::within), unfolding(crate::specs::Comb::combed))]
-    fn process(self, ring: &mut [f64], read: Read, input: f64) -> Combed<R, L>
+    #[tactic(auto, unfolding(crate::specs::Comb::combed))]
+    fn process(self, ring: &mut [f64], read: Read, input: f64) -> Answered<Comb<R, L>>
         ensures { outcome result ring.new ≡ combed R.means L.means read self ring.old input }
     {
-        if !in_ring(self.cursor.position, ring.len()) {
-            return Combed {
-                verdict: refusal(4),
-                comb: self,
-                sample: 0.0,
-                reach: Reach::Within,
-            };
-        }
-        let stepped = self.step(ring, read, input);
-        Combed {
-            verdict: done(),
-            comb: stepped.next,
-            sample: stepped.sample,
-            reach: read.reach(),
+        match Place::of(self.cursor.position, ring.len()) {
+            Ok(place) => Answered::of(self.step(ring, place, read, input), read.reach()),
+            Err(refusal) => Answered::refused(refusal, self),
         }
     }
 
-    // One sample, at any reading of the ring.
+    // One sample, at the place of the cursor and at any reading of the ring.
     #[tactic(auto, unfolding(crate::specs::Comb::comb))]
-    fn step<D: Reading>(self, ring: &mut [f64], reading: D, input: f64) -> Step<Comb<R, L>>
-        requires { (self.cursor.position < length ring.old) × (length ring.old ≤ 32768) × D.fits reading (length ring.old) }
+    fn step<D: Reading>(
+        self,
+        ring: &mut [f64],
+        place: Place,
+        reading: D,
+        input: f64,
+    ) -> Step<Comb<R, L>>
+        requires { (place.position ≡ self.cursor.position) × (place.slots ≡ length ring.old) × D.fits reading place.slots }
         ensures { step (comb_over result.next ring.new) result.sample ≡ comb R.means L.means (D.reads reading) (comb_over self ring.old) input }
     {
-        let at = slot_after(ring.len(), self.cursor.position);
+        let at = place.after();
         let delayed = reading.read(ring, at);
         let responded = self.response.process_sample(delayed);
         let limited = self.limit.process_sample(responded.sample + input);
-        ring[at] = limited.sample;
+        ring[at.position] = limited.sample;
         Step {
             next: Comb {
-                cursor: Cursor { position: at },
+                cursor: Cursor {
+                    position: at.position,
+                },
                 response: responded.next,
                 limit: limited.next,
             },

@@ -4,13 +4,12 @@ ghost use Rattle.numbers.specs.Outcome.{outcome};
 ghost use Rattle.util.specs.DelayLine.{advanced_there};
 
 use crate::delay_line::Cursor;
-use answers::verdict::Verdict;
+use answers::refusal::Verdict;
 
 // Taken out, advanced by value, and put back.
 pub fn advance_lent(c: &mut Cursor, slots: usize) -> Verdict
     ensures { outcome result c.new ≡ advanced_there c.old slots }
 {
-    let moved = c.advance(slots);
-    *c = moved.cursor;
-    moved.verdict
+    *c = c.advance(slots)?;
+    Ok(())
 }

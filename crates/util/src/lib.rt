@@ -2,11 +2,13 @@
 #![tactic(auto)]
 
 pub mod all_pass;
+pub mod answered;
 pub mod comb_filter;
 pub mod delay_line;
 pub mod interaction;
 pub mod lent;
 pub mod low_pass;
+mod place;
 pub mod reach;
 mod reading;
 pub mod soft_clip;

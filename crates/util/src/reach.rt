@@ -2,7 +2,7 @@
 ghost use Rattle.std.specs.Prelude.{◌≡◌};
 ghost use Rattle.util.specs.Reach.{reach_of, number_of};
 
-#[derive(Clone, Copy)]
+#[derive(Clone, Copy, PartialEq, Eq)]
 pub enum Reach {
     Within,
     Below,
@@ -11,10 +11,11 @@ pub enum Reach {
 }
 
 // Judged of the fraction as it was given, not as it is held: -0.0, 0 and 1 are within.
+#[tactic(auto, unfolding(crate::specs::Reach::reach_of))]
 pub(crate) fn reach_of(fract_offset: f64) -> Reach
     ensures { result ≡ reach_of fract_offset }
 {
-    if fract_offset != fract_offset {
+    if fract_offset.is_nan() {
         return Reach::NotANumber;
     }
     if fract_offset < 0.0 {
@@ -27,13 +28,22 @@ pub(crate) fn reach_of(fract_offset: f64) -> Reach
 }
 
 // The number by which it is told.
+impl From<Reach> for u8 {
+    ghost from_gives = { λ reach n. n ≡ number_of reach };
+
+    fn from(reach: Reach) -> u8 {
+        match reach {
+            Reach::Within => 0,
+            Reach::Below => 1,
+            Reach::Above => 2,
+            Reach::NotANumber => 3,
+        }
+    }
+}
+
+// The same, by name.
 pub fn number(reach: Reach) -> u8
     ensures { result ≡ number_of reach }
 {
-    match reach {
-        Reach::Within => 0,
-        Reach::Below => 1,
-        Reach::Above => 2,
-        Reach::NotANumber => 3,
-    }
+    reach.into()
 }

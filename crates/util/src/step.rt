@@ -9,7 +9,7 @@ pub struct Step<S> {
 
 impl<S> Step<S> {
     // The same sample, with another state made of the next one.
-    pub fn map<T, F: FnOnce(S) -> T>(self, to: F) -> Step<T>
+    pub(crate) fn map<T, F: FnOnce(S) -> T>(self, to: F) -> Step<T>
         requires { F.pre to self.next }
         ensures made { F.post to self.next result.next }
         ensures sample { result.sample ≡ self.sample }
