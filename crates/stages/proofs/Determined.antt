@@ -78,5 +78,5 @@ window_determined = by_definition
 
 -- a window, and a sample: what the stage keeps, its ring with it, and what is written or answered
 pub machine_determined : Determined (λ r s. outcome (own r s.1.1.0.now) s.1.1.1.0.now) play.Post
-    × Determined (λ r s. outcome (own r.state s.1.1.0.now) r.sample) step.Post
+    × Determined (λ r s. outcome (own r.next s.1.1.0.now) r.sample) step.Post
 machine_determined = (as_follows (λ κs a r s p. both p.kept p.samples), as_follows (λ κs a r s p. both p.0 p.1))

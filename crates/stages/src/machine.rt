@@ -14,6 +14,7 @@ use microwave::window::{
     biquad_window, gain_window, one_pole_window, oscillator_window, plain_window, string_window,
 };
 use util::reach::Reach;
+use util::step::Step;
 
 // Where a stage's loop finds its inputs; zeros where it has fewer than two.
 #[derive(Clone, Copy)]
@@ -31,13 +32,6 @@ pub enum Machine {
     Biquad(Coefficients),
     Waveguide(Guide),
     Gain(f64),
-}
-
-// What a stage keeps after one sample, and the sample.
-#[derive(Clone, Copy)]
-pub struct Sampled {
-    pub state: State,
-    pub sample: f64,
 }
 
 impl Machine {
@@ -120,52 +114,38 @@ impl Machine {
     }
 
     // One sample, given one of each input; `ring` is the stage's ring. For an engine that goes from sample to sample.
-    pub fn step(self, mut state: State, ring: &mut [f64], first: f64, second: f64) -> Sampled
+    pub fn step(self, mut state: State, ring: &mut [f64], first: f64, second: f64) -> Step<State>
         requires { Strings self (owned state ring.old) }
-        ensures { (owned result.state ring.new ≡ next_of self (owned state ring.old) (hear first second))
+        ensures { (owned result.next ring.new ≡ next_of self (owned state ring.old) (hear first second))
             × (result.sample ≡ out_of self (owned state ring.old) (hear first second)) }
     {
-        match self {
-            Machine::Plain(shape) => {
-                let sample = shape.shaped(first, second);
-                return Sampled { state, sample };
-            }
+        let sample = match self {
+            Machine::Plain(shape) => shape.shaped(first, second),
             Machine::Oscillator(oscillator) => {
-                let phases = state.oscillator;
-                let next = phases.step(oscillator, first);
-                let kept = next.phases;
-                state.oscillator = kept;
-                let sample = next.sample;
-                return Sampled { state, sample };
+                let Step { next, sample } = state.oscillator.step(oscillator, first);
+                state.oscillator = next;
+                sample
             }
             Machine::OnePole(one_pole) => {
-                let memory = state.one_pole;
-                let next = memory.step(one_pole, first);
-                let kept = next.memory;
-                state.one_pole = kept;
-                let sample = next.sample;
-                return Sampled { state, sample };
+                let Step { next, sample } = state.one_pole.step(one_pole, first);
+                state.one_pole = next;
+                sample
             }
             Machine::Biquad(coefficients) => {
-                let memory = state.biquad;
-                let next = memory.step(coefficients, first);
-                let kept = next.memory;
-                state.biquad = kept;
-                let sample = next.sample;
-                return Sampled { state, sample };
+                let Step { next, sample } = state.biquad.step(coefficients, first);
+                state.biquad = next;
+                sample
             }
             Machine::Waveguide(guide) => {
-                let memory = state.waveguide;
-                let next = memory.step(guide, ring, first);
-                let kept = next.memory;
-                state.waveguide = kept;
-                let sample = next.sample;
-                return Sampled { state, sample };
+                let Step { next, sample } = state.waveguide.step(guide, ring, first);
+                state.waveguide = next;
+                sample
             }
-            Machine::Gain(gain) => {
-                let sample = first * gain;
-                return Sampled { state, sample };
-            }
+            Machine::Gain(gain) => first * gain,
+        };
+        Step {
+            next: state,
+            sample,
         }
     }
 }
