@@ -10,10 +10,9 @@ use borrow.Author.Tests.{leb-true, eqb-true}
 use lib.Dec.{eqb, leb}
 use lib.ListN.{length, drop, length-append, length-drop}
 use lib.Seq.{take-append-le, drop-append-le}
-use Rattle.report.specs.Report.{no_samples, after, most, fullest, has_room, refused_by, accepted}
+use Rattle.report.specs.Report.{Added, no_samples, after, most, fullest, has_room, refused_by, accepted}
 use Rattle.report.specs.Bytes.{first_samples, samples_of, added_bytes_of}
 use Rattle.report.specs.declared.report.Report.{Report}
-use Rattle.report.specs.declared.report.Added.{Added}
 use Rattle.report.proofs.Step.{after_joined}
 use Rattle.report.proofs.Room.{up_to, room_is_samples}
 

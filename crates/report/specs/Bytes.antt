@@ -1,9 +1,8 @@
 -- Samples as bytes, eight to each, low byte first. Rests on `words` for what eight bytes make. Assumes nothing.
 use Rattle.std.specs.Prelude.{ℕ, zero, suc, ◌/◌, ◌%◌, cond, List, [], ◌∷◌, eqb, length, take, drop}
 use Rattle.words.specs.Word.{word_of}
-use Rattle.report.specs.Report.{after, has_room, refused_by, accepted}
+use Rattle.report.specs.Report.{Added, after, has_room, refused_by, accepted}
 use Rattle.report.specs.declared.report.Report.{Report}
-use Rattle.report.specs.declared.report.Added.{Added}
 
 -- the first n samples of bytes
 unfoldable pub first_samples : ℕ → List ℕ → List ℕ

@@ -3,13 +3,7 @@ use Rattle.std.specs.Prelude.{ℕ, ◌+◌, max, cond, ltb, eqb}
 use Rattle.report.specs.Sample.{infinity, one, magnitude, is_nan, is_infinite, is_finite, is_above_one, sign_of, is_signed, is_opposite}
 use Rattle.report.specs.Report.{one_if}
 use Rattle.report.specs.declared.sample.Sign.{Sign}
-use Rattle.report.specs.declared.sample.Sign.TheVariants.{Neither, Positive, Negative}
 use Rattle.report.specs.declared.report.Report.{Report}
-
-abbrev pub sign_number : Sign → ℕ
-sign_number Neither = 0
-sign_number Positive = 1
-sign_number Negative = 2
 
 -- the sign that was met last, where this one is met next
 abbrev pub later_of : Sign → Sign → Sign

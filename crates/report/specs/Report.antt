@@ -1,11 +1,12 @@
 -- The report over a list of samples, each by its bits: "samples, NaNs, infinities, samples of magnitude above 1.0, sign changes (between
 -- neighbours after zeros and NaNs are dropped), and the largest finite magnitude as its bits". Assumes nothing.
-use Rattle.std.specs.Prelude.{ℕ, ◌+◌, max, Bool, cond, List, [], ◌∷◌, map, leb, length}
+use Rattle.std.specs.Prelude.{ℕ, ◌+◌, max, Bool, cond, List, [], ◌∷◌, map, leb, length, Result, Ok, Err}
 use Rattle.report.specs.Sample.{magnitude, is_nan, is_infinite, is_finite, is_above_one, sign_of, is_signed, is_opposite}
 use Rattle.report.specs.declared.sample.Sign.{Sign}
 use Rattle.report.specs.declared.sample.Sign.TheVariants.{Neither}
 use Rattle.report.specs.declared.report.Report.{Report}
-use Rattle.report.specs.declared.report.Added.{Added}
+use Rattle.report.specs.declared.refused.Refused.{Refused}
+use Rattle.report.specs.Refused.{number_of}
 
 -- the members that are such, in their order, and how many they are
 unfoldable pub those : {A : Type 0} → (A → Bool) → List A → List A
@@ -72,6 +73,16 @@ fullest r = max (max r.samples r.nans) (max (max r.infinities r.above_one) r.sig
 
 abbrev pub has_room : Report → ℕ → Bool
 has_room r n = leb (fullest r + n) most
+
+-- what comes of a stretch: 0 with the report of all that came, or a refusal's number with a report
+pub record Added : Type 0 where
+  pub number : ℕ
+  pub report : Report
+
+-- the same, as a call tells it: by what it answers, and the report that it leaves
+unfoldable pub told : Result Unit Refused → Report → Added
+told (Ok done) r = record { number = 0; report = r }
+told (Err refused) r = record { number = number_of refused; report = r }
 
 -- a refusal leaves the report as it is
 abbrev pub refused_by : ℕ → Report → Added

@@ -1,15 +1,16 @@
-// A report by value, and stretches of samples that are added to it: of lent windows, or of lent bytes as a stream hands them over. Rests on
-// `sample` for what a sample counts among and on `words` for its bits.
-ghost use Rattle.std.specs.Prelude.{◌≡◌, [], ◌∷◌, map, ◌+◌, ◌<◌, ◌≤◌, ◌/◌, max, length};
+// A report, and stretches of samples that are added to it: of lent windows, or of lent bytes as a stream hands them over. Rests on `sample` for what
+// a sample counts among and on `words` for its bits.
+ghost use Rattle.std.specs.Prelude.{◌≡◌, [], ◌∷◌, map, ◌+◌, ◌<◌, ◌≤◌, ◌/◌, length};
 ghost use Rattle.words.specs.Number.{to_word};
+ghost use Rattle.words.specs.Word.{word_of};
 ghost use Rattle.report.specs.Sample.{infinity};
-ghost use Rattle.report.specs.Report.{no_samples, most, fullest, has_room, after, added_of, one_if};
+ghost use Rattle.report.specs.Report.{no_samples, most, fullest, has_room, after, added_of, told};
 ghost use Rattle.report.specs.Bytes.{samples_of, added_bytes_of};
 ghost use Rattle.report.specs.Inside.{signed_by, levelled_by};
 
+use crate::refused::Refused;
 use crate::sample::{INFINITY, ONE, SIGN, Sign, sign_of};
 use words::number::to_word;
-use words::reader::{Cursor, Taken};
 
 // What no count passes.
 const MOST: u64 = 4_294_967_295;
@@ -26,92 +27,64 @@ pub struct Report {
     pub last: Sign,
 }
 
-// 0 with the report of all that came, or a refusal's number with the report as it was.
-#[derive(Clone, Copy)]
-pub struct Added {
-    pub number: usize,
-    pub report: Report,
-}
-
-// The report of no samples.
-pub fn new_report() -> Report
-    ensures { result ≡ no_samples }
-{
-    Report {
-        samples: 0,
-        nans: 0,
-        infinities: 0,
-        above_one: 0,
-        sign_changes: 0,
-        largest: 0,
-        last: Sign::Neither,
-    }
-}
-
-// A stretch of samples more, of any length; 30 where a count could pass 4,294,967,295.
-pub fn add(report: Report, samples: &[f64]) -> Added
-    ensures { result ≡ added_of report (map to_word samples.now) }
-{
-    if !report.has_room(samples.len()) {
-        return Added { number: 30, report };
-    }
-    Added {
-        number: 0,
-        report: report.with_samples(samples),
-    }
-}
-
-// A stretch of samples more, as bytes, each sample's eight low byte first: 30 as above, and then 34 where they end inside a sample.
-pub fn add_bytes(report: Report, bytes: &[u8]) -> Added
-    ensures { result ≡ added_bytes_of report bytes.now }
-{
-    if !report.has_room(bytes.len() / 8) {
-        return Added { number: 30, report };
-    }
-    if bytes.len() % 8 != 0 {
-        return Added { number: 34, report };
-    }
-    Added {
-        number: 0,
-        report: report.with_bytes(bytes),
-    }
-}
-
-fn larger(a: u64, b: u64) -> u64
-    ensures { result ≡ max a b }
-{
-    if a < b { b } else { a }
-}
-
-fn one_if(met: bool) -> u64
-    ensures { result ≡ one_if met }
-{
-    if met { 1 } else { 0 }
-}
-
 impl Report {
+    // The report of no samples.
+    pub fn new() -> Report
+        ensures { result ≡ no_samples }
+    {
+        Report {
+            samples: 0,
+            nans: 0,
+            infinities: 0,
+            above_one: 0,
+            sign_changes: 0,
+            largest: 0,
+            last: Sign::Neither,
+        }
+    }
+
+    // A stretch of samples more, of any length; refused where a count could pass 4,294,967,295. A refusal leaves the report as it is.
+    pub fn add(&mut self, samples: &[f64]) -> Result<(), Refused>
+        ensures { told result self.new ≡ added_of self.old (map to_word samples.now) }
+    {
+        if !self.has_room(samples.len()) {
+            return Err(Refused::TooManySamples);
+        }
+        *self = self.with_samples(samples);
+        Ok(())
+    }
+
+    // A stretch of samples more, as bytes, each sample's eight low byte first: refused as above, and then where they end inside a sample.
+    pub fn add_bytes(&mut self, bytes: &[u8]) -> Result<(), Refused>
+        ensures { told result self.new ≡ added_bytes_of self.old bytes.now }
+    {
+        let (words, rest) = bytes.as_chunks::<8>();
+        if !self.has_room(words.len()) {
+            return Err(Refused::TooManySamples);
+        }
+        if !rest.is_empty() {
+            return Err(Refused::CutSample);
+        }
+        *self = self.with_words(words);
+        Ok(())
+    }
+
     // The greatest count.
     fn fullest(self) -> u64
         ensures { result ≡ fullest self }
     {
-        larger(
-            larger(self.samples, self.nans),
-            larger(larger(self.infinities, self.above_one), self.sign_changes),
-        )
+        self.samples
+            .max(self.nans)
+            .max(self.infinities)
+            .max(self.above_one)
+            .max(self.sign_changes)
     }
 
     // Whether n samples more take no count past its bound.
     fn has_room(self, n: usize) -> bool
         ensures { result ≡ has_room self n }
     {
-        let fullest = self.fullest();
-        if MOST < fullest {
-            return false;
-        }
-        if MOST - fullest < n as u64 {
-            return false;
-        }
-        true
+        self.fullest().saturating_add(n as u64) <= MOST
     }
 
     // The lent samples more, for which there is room.
@@ -120,31 +93,22 @@ impl Report {
         ensures { result ≡ after self (map to_word samples.now) }
     {
         let mut report = self;
-        let mut i = 0;
-        while i < samples.len() {
-            report = report.with_sample(to_word(samples[i]));
-            i += 1;
+        for x in samples {
+            report = report.with_sample(to_word(*x));
         }
         report
     }
 
     // The samples more that the lent bytes make, for which there is room.
-    fn with_bytes(self, bytes: &[u8]) -> Report
-        requires { fullest self + length bytes.now / 8 ≤ most }
-        ensures { result ≡ after self (samples_of bytes.now) }
+    fn with_words(self, words: &[[u8; 8]]) -> Report
+        requires { fullest self + length words.now ≤ most }
+        ensures { result ≡ after self (map word_of words.now) }
     {
         let mut report = self;
-        let mut cursor = Cursor {
-            at: 0,
-            end: bytes.len(),
-        };
-        loop {
-            let Taken::Word(bits, rest) = cursor.take(bytes) else {
-                return report;
-            };
-            report = report.with_sample(bits);
-            cursor = rest;
+        for word in words {
+            report = report.with_sample(u64::from_le_bytes(*word));
         }
+        report
     }
 
     // One sample more, by its bits. Of zeros and NaNs no more is to be told; for the others no jump hangs on sign or loudness.
@@ -153,34 +117,27 @@ impl Report {
         requires { fullest self < most }
         ensures { result ≡ after self (bits ∷ []) }
     {
-        self.samples = self.samples + 1;
+        self.samples += 1;
         let magnitude = bits % SIGN;
         if magnitude == 0 {
             return self;
         }
         if magnitude > INFINITY {
-            self.nans = self.nans + 1;
+            self.nans += 1;
             return self;
         }
-        let signed = self.with_sign(sign_of(bits));
-        signed.with_magnitude(magnitude)
+        self.with_sign(sign_of(bits)).with_magnitude(magnitude)
     }
 
     // A sign is held to the last one that was met, and is then that one.
-    fn with_sign(self, sign: Sign) -> Report
+    #[tactic(auto, unfolding(crate::specs::Inside::signed_by))]
+    fn with_sign(mut self, sign: Sign) -> Report
         requires { self.sign_changes < most }
         ensures { result ≡ signed_by self sign }
     {
-        let last = self.last;
-        Report {
-            samples: self.samples,
-            nans: self.nans,
-            infinities: self.infinities,
-            above_one: self.above_one,
-            sign_changes: self.sign_changes + one_if(last.is_opposite(sign)),
-            largest: self.largest,
-            last: sign,
-        }
+        self.sign_changes += u64::from(self.last.is_opposite(sign));
+        self.last = sign;
+        self
     }
 
     // The magnitude of a number or an infinity.
@@ -189,12 +146,12 @@ impl Report {
         requires { (self.infinities < most) × (self.above_one < most) × (magnitude ≤ infinity) }
         ensures { result ≡ levelled_by self magnitude }
     {
-        self.above_one = self.above_one + one_if(magnitude > ONE);
+        self.above_one += u64::from(magnitude > ONE);
         if magnitude == INFINITY {
-            self.infinities = self.infinities + 1;
+            self.infinities += 1;
             return self;
         }
-        self.largest = larger(self.largest, magnitude);
+        self.largest = self.largest.max(magnitude);
         self
     }
 }

@@ -1,7 +1,6 @@
 // A sample by its bits: the numbers to which its magnitude is held, its sign, and what one sign is to the next.
 ghost use Rattle.std.specs.Prelude.{◌≡◌, ◌<◌, ◌≤◌};
 ghost use Rattle.report.specs.Sample.{infinity, magnitude, sign_of, is_opposite};
-ghost use Rattle.report.specs.Inside.{sign_number};
 
 pub(crate) const SIGN: u64 = 0x8000_0000_0000_0000;
 
@@ -10,7 +9,7 @@ pub(crate) const INFINITY: u64 = 0x7ff0_0000_0000_0000;
 pub(crate) const ONE: u64 = 0x3ff0_0000_0000_0000;
 
 // Zeros and NaNs have neither.
-#[derive(Clone, Copy)]
+#[derive(Clone, Copy, PartialEq, Eq)]
 pub enum Sign {
     Neither,
     Positive,
@@ -23,26 +22,17 @@ pub(crate) fn sign_of(bits: u64) -> Sign
     ensures { result ≡ sign_of bits }
 {
     if bits < SIGN {
-        return Sign::Positive;
+        Sign::Positive
+    } else {
+        Sign::Negative
     }
-    Sign::Negative
 }
 
 impl Sign {
-    fn number(self) -> u64
-        ensures { result ≡ sign_number self }
-    {
-        match self {
-            Sign::Neither => 0,
-            Sign::Positive => 1,
-            Sign::Negative => 2,
-        }
-    }
-
-    // Whether one of the two is positive and the other negative: by numbers, so that no jump hangs on it.
+    // Whether one of the two is positive and the other negative: by their numbers, 1 and 2, so that no jump hangs on it.
     pub(crate) fn is_opposite(self, other: Sign) -> bool
         ensures { result ≡ is_opposite self other }
     {
-        self.number() + other.number() == 3
+        self as u64 + other as u64 == 3
     }
 }

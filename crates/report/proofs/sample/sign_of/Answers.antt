@@ -9,7 +9,7 @@ returns-then-bits-lt-SIGN c =
     let bits = c.args.bits in
     rw (highest_bit bits (omega arith) (omega arith), lt-ltb _ _ c.if-bits-lt-SIGN.true)
 
-pub returns : goal.returns
-returns c =
+pub returns-else-bits-lt-SIGN : goal.returns-else-bits-lt-SIGN
+returns-else-bits-lt-SIGN c =
     let bits = c.args.bits in
     rw (highest_bit bits (omega arith) (omega arith), le-ltb _ _ c.if-bits-lt-SIGN.false)

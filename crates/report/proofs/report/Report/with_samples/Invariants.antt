@@ -8,9 +8,6 @@ use Rattle.words.specs.Number.{to_word}
 use Rattle.report.specs.Report.{most, fullest, after}
 use Rattle.report.proofs.report.Report.with_samples.Given as goal
 
-abbrev pub invariant-loop-i : goal.invariant-loop-i
-invariant-loop-i l = (l.i ≤ length l.samples) × (fullest l.report + (length l.samples - l.i) ≤ most)
-    × (after l.report (map to_word (drop l.i l.samples)) ≡ after l.initial.report (map to_word l.samples))
-
-abbrev pub decreases-loop-i : goal.decreases-loop-i
-decreases-loop-i l = length l.samples - l.i
+abbrev pub invariant-loop-x : goal.invariant-loop-x
+invariant-loop-x l = (fullest l.report + (length l.samples - l.x-index) ≤ most)
+    × (after l.report (map to_word (drop l.x-index l.samples)) ≡ after l.initial.report (map to_word l.samples))

@@ -1,2 +1,0 @@
--- Laws that the proofs of `report::sample` alone cite.
-mod Numbers
