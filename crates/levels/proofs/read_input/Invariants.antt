@@ -5,8 +5,8 @@ use lib.ListN.{length}
 use Rattle.report.specs.Report.{most}
 use Rattle.levels.proofs.read_input.Given as goal
 
-abbrev pub invariant-loop-stdin : goal.invariant-loop-stdin
-invariant-loop-stdin l = length l.bytes ≡ length l.initial.bytes
+abbrev pub invariant-loop-count : goal.invariant-loop-count
+invariant-loop-count l = length l.bytes ≡ length l.initial.bytes
 
-abbrev pub decreases-loop-stdin : goal.decreases-loop-stdin
-decreases-loop-stdin l = most + 1 - l.report.samples
+abbrev pub decreases-loop-count : goal.decreases-loop-count
+decreases-loop-count l = most + 1 - l.report.samples
