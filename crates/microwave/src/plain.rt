@@ -1,9 +1,9 @@
 // The stages without memory: Pass, Pow3, Clip and RingModulator. Port of their part of mod.rs.
 // Rests on the small functions of f64, of `numbers`.
-ghost use Rattle.std.specs.Prelude.{◌≡◌, slice_index_or};
+ghost use Rattle.std.specs.Prelude.{◌≡◌, slice_index_or, Float};
 ghost use Rattle.std.specs.Float.{nan};
 ghost use Rattle.magnetron.specs.Signals.{tab};
-ghost use Rattle.microwave.specs.Plain.{clip_limit, shaped_of};
+ghost use Rattle.microwave.specs.Plain.{clip_limit, shaped_of, gained};
 
 use numbers::small::{absolute, maximum, minimum};
 
@@ -35,17 +35,45 @@ impl Shape {
             Shape::RingModulator => first * second,
         }
     }
+}
 
-    // The same of eight samples of each.
-    pub(crate) fn shaped_block(self, first: [f64; 8], second: [f64; 8]) -> [f64; 8]
-        ensures { result ≡ tab 8 (λ k. shaped_of self (slice_index_or first k nan) (slice_index_or second k nan)) }
-    {
-        let mut block = [0.0; 8];
-        let mut k = 0;
-        while k < 8 {
-            block[k] = self.shaped(first[k], second[k]);
-            k += 1;
-        }
-        block
+// What is made of a sample of each input, with nothing remembered.
+pub(crate) trait Shaping: Copy {
+    ghost shaped_by: { Self → Float → Float → Float };
+
+    fn shape(self, first: f64, second: f64) -> f64
+        ensures { result ≡ shaped_by self first second };
+}
+
+impl Shaping for Shape {
+    ghost shaped_by = { shaped_of };
+
+    fn shape(self, first: f64, second: f64) -> f64 {
+        self.shaped(first, second)
     }
+}
+
+// A factor: one side of Pan, which reads one input.
+#[derive(Clone, Copy)]
+pub(crate) struct Gain {
+    pub factor: f64,
+}
+
+impl Shaping for Gain {
+    ghost shaped_by = { λ g first second. gained g.factor first };
+
+    fn shape(self, first: f64, _second: f64) -> f64 {
+        first * self.factor
+    }
+}
+
+// The same of eight samples of each.
+pub(crate) fn shaped_block<S: Shaping>(shape: S, first: [f64; 8], second: [f64; 8]) -> [f64; 8]
+    ensures { result ≡ tab 8 (λ k. S.shaped_by shape (slice_index_or first k nan) (slice_index_or second k nan)) }
+{
+    let mut block = [0.0; 8];
+    for k in 0..8 {
+        block[k] = shape.shape(first[k], second[k]);
+    }
+    block
 }

@@ -15,15 +15,15 @@ ghost use Rattle.microwave.specs.Inside.{Windowed};
 use crate::filter::{Biquad, Coefficients, OnePole, OnePoleMemory};
 use crate::machine::Machine;
 use crate::oscillator::{Oscillator, Phases};
-use crate::plain::Shape;
+use crate::plain::{Gain, Shape, Shaping, shaped_block};
 use crate::waveguide::{Guide, StringMemory};
-use magnetron::block::{fetch_block, scaled, write_block};
+use magnetron::block::{fetch_block, write_block};
 use magnetron::output::{Target, write_sample};
 use magnetron::source::{Source, fetch};
 
 // All whole blocks of a shape. Answers how many samples they are.
-fn plain_blocks(
-    shape: Shape,
+fn shaped_blocks<S: Shaping>(
+    shape: S,
     own: &mut [f64],
     other: &[f64],
     first: Source,
@@ -31,17 +31,38 @@ fn plain_blocks(
     target: Target,
 ) -> usize
     requires { (LiesIn target own.old) × (ClearOf first own.old other.now target) × (ClearOf second own.old other.now target) }
-    ensures { WrittenTo own.old target (λ i. shaped_of shape
+    ensures { WrittenTo own.old target (λ i. S.shaped_by shape
         (signal_of first own.old other.now i) (signal_of second own.old other.now i)) result own.new }
 {
     let mut i = 0;
+    // Stays: as a `for` over the blocks, a sample of Pass takes 1.4 times as long, of RingModulator 1.3 times and of Pow3 1.1 times.
     while 8 <= target.samples - i {
         let x = fetch_block(own, other, first, i);
         let y = fetch_block(own, other, second, i);
-        write_block(own, target, i, shape.shaped_block(x, y));
+        write_block(own, target, i, shaped_block(shape, x, y));
         i += 8;
     }
     i
+}
+
+// A shape of two inputs: whole blocks, and what is left of the window sample by sample.
+fn shaped_window<S: Shaping>(
+    shape: S,
+    own: &mut [f64],
+    other: &[f64],
+    first: Source,
+    second: Source,
+    target: Target,
+)
+    requires { (LiesIn target own.old) × (ClearOf first own.old other.now target) × (ClearOf second own.old other.now target) }
+    ensures { own.new ≡ written own.old target (λ i. S.shaped_by shape
+        (signal_of first own.old other.now i) (signal_of second own.old other.now i)) }
+{
+    for i in shaped_blocks(shape, own, other, first, second, target)..target.samples {
+        let x = fetch(own, other, first, i);
+        let y = fetch(own, other, second, i);
+        write_sample(own, target, i, shape.shape(x, y));
+    }
 }
 
 // A shape of two inputs. Where it reads one, the second may be anything that lies clear.
@@ -57,27 +78,7 @@ pub fn plain_window(
     ensures { own.new ≡ written own.old target (λ i. shaped_of shape
         (signal_of first own.old other.now i) (signal_of second own.old other.now i)) }
 {
-    let mut i = plain_blocks(shape, own, other, first, second, target);
-    while i < target.samples {
-        let x = fetch(own, other, first, i);
-        let y = fetch(own, other, second, i);
-        write_sample(own, target, i, shape.shaped(x, y));
-        i += 1;
-    }
-}
-
-// All whole blocks of a gain. Answers how many samples they are.
-fn gain_blocks(gain: f64, own: &mut [f64], other: &[f64], input: Source, target: Target) -> usize
-    requires { (LiesIn target own.old) × (ClearOf input own.old other.now target) }
-    ensures { WrittenTo own.old target (λ i. gained gain (signal_of input own.old other.now i)) result own.new }
-{
-    let mut i = 0;
-    while 8 <= target.samples - i {
-        let x = fetch_block(own, other, input, i);
-        write_block(own, target, i, scaled(x, gain));
-        i += 8;
-    }
-    i
+    shaped_window(shape, own, other, first, second, target);
 }
 
 // A gain: one side of Pan.
@@ -85,12 +86,8 @@ pub fn gain_window(gain: f64, own: &mut [f64], other: &[f64], input: Source, tar
     requires { (LiesIn target own.old) × (ClearOf input own.old other.now target) }
     ensures { own.new ≡ written own.old target (λ i. gained gain (signal_of input own.old other.now i)) }
 {
-    let mut i = gain_blocks(gain, own, other, input, target);
-    while i < target.samples {
-        let x = fetch(own, other, input, i);
-        write_sample(own, target, i, x * gain);
-        i += 1;
-    }
+    let gain = Gain { factor: gain };
+    shaped_window(gain, own, other, input, Source::Zeros, target);
 }
 
 // The samples of a window of a machine.
