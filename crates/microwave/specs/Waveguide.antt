@@ -5,10 +5,8 @@ use Rattle.std.specs.Float.Ieee.{neg, of_int}
 use Rattle.numbers.specs.Constants.{zero64, one64, half64}
 use Rattle.util.specs.DelayLine.{delay_at}
 use Rattle.util.specs.declared.step.Step.{Step}
-use Rattle.util.specs.Interaction.{over, damping_of, low_pass_at, low_pass_gain}
-use Rattle.util.specs.Comb.{Comb, tuned_step}
-use Rattle.util.specs.declared.comb_filter.TunedComb.{TunedComb}
-use Rattle.util.specs.declared.interaction.LowPassGain.{LowPassGain}
+use Rattle.util.specs.Interaction.{over, damping_of, low_pass_at, LowPassGain, low_pass_gain}
+use Rattle.util.specs.Comb.{RingedComb, TunedComb, tuned_step}
 use Rattle.util.specs.declared.soft_clip.SoftClip.{SoftClip}
 use Rattle.microwave.specs.Arithmetic.{f64_arithmetic}
 use Rattle.microwave.specs.Running.{Running, running}
@@ -64,7 +62,7 @@ comb_of k m = record {
 }
 
 -- the string that a comb leaves
-abbrev pub left_by : Comb LowPassGain SoftClip → Strung
+abbrev pub left_by : RingedComb LowPassGain SoftClip → Strung
 left_by c = strung (record { low_pass = c.response.first.state; position = c.position }) c.ring
 
 unfoldable pub string_step : Guide → Strung → Float → Step Strung

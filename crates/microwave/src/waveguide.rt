@@ -9,7 +9,7 @@ use crate::machine::Machine;
 use crate::parameter::Parameter;
 use util::comb_filter::TunedComb;
 use util::delay_line::{Cursor, Delay, delay_at};
-use util::interaction::LowPassGain;
+use util::interaction::{Interaction, LowPassGain};
 use util::low_pass::OnePoleLowPass;
 use util::soft_clip::SoftClip;
 use util::step::Step;
@@ -132,14 +132,13 @@ impl StringMemory {
         requires { InRing k (strung self ring.old) }
         ensures { step (strung result.next ring.new) result.sample ≡ string_step k (strung self ring.old) input }
     {
-        let tuned = k.comb(self).process_sample_at(ring, k.delay, input);
-        let next = tuned.comb;
+        let Step { next, sample } = k.comb(self).process_sample_at(ring, k.delay, input);
         Step {
             next: StringMemory {
                 low_pass: next.response.first.state,
                 position: next.cursor.position,
             },
-            sample: tuned.sample,
+            sample,
         }
     }
 }
