@@ -69,7 +69,8 @@ low_pass_determined = (by_definition, by_definition, by_definition, by_definitio
 pub interaction_determined : Answer gain.Post × Answer gain-delay.Post × Answer gain-mute.Post × Answer any.Post × Answer any-delay.Post × Answer any-mute.Post
 interaction_determined = (by_definition, by_definition, by_definition, by_definition, by_definition, by_definition)
 
--- ---- at any two types that are interactions: of one followed by the other, and of the comb that responds through the one and writes through the other
+-- ---- at any two types that are interactions: of one followed by the other, and of the comb that responds through the one and writes through the other.
+-- r1 to r6 and l1 to l6 are what is known of the two: the laws of a type, that it is copied, and the members of its `Interaction` and `Clone`.
 module _ (R L : RattleType) (r1 : _) (l1 : _) (r2 : _) (l2 : _) (r3 : _) (r4 : _) (r5 : _) (r6 : _) (l3 : _) (l4 : _) (l5 : _) (l6 : _) where
   pub followed_by_determined : Answer (followed-by.Post R L r1 l1 r2 l2 r3 r4 r5 r6 l3 l4 l5 l6)
       × Answer (followed-by-delay.Post R L r1 l1 r2 l2 r3 r4 r5 r6 l3 l4 l5 l6) × Answer (followed-by-mute.Post R L r1 l1 r2 l2 r3 r4 r5 r6 l3 l4 l5 l6)

@@ -83,7 +83,8 @@ impl<A: Interaction, B: Interaction> Interaction for FollowedBy<A, B> {
 // A low-pass followed by a gain: how a waveguide responds.
 pub type LowPassGain = FollowedBy<OnePoleLowPass, f64>;
 
-// What a comb answers through, or writes through.
+// What a comb answers through, or writes through, where only a run knows which.
+// Stays: 01's "Generic Interaction: the few pairings used, by name", and no heap: these are the names, and a `dyn` would stand in a box.
 #[derive(Clone, Copy)]
 pub enum AnyInteraction {
     Gain(f64),

@@ -5,8 +5,7 @@ ghost use Rattle.util.specs.Interaction.{low_pass_of, low_pass_at, damping_of};
 
 use crate::interaction::Interaction;
 use crate::step::Step;
-
-const TAU: f64 = 6.283185307179586;
+use std::f64::consts::TAU;
 
 #[derive(Clone, Copy)]
 pub struct OnePoleLowPass {
