@@ -14,6 +14,7 @@ use native.Mathlib.Omega.{arith}
 use lib.Dec.{ltb}
 use lib.ListN.{length, get_or, set, take, drop, length-drop, length-set}
 use lib.Seq.{sets, length-sets, take_all, length-take-le}
+use Rattle.std.specs.Prelude.{Some}
 use lib.Ieee.{Float}
 use borrow.Author.Tests.{ltb-true}
 use borrow.Rule.Slice.PartMut.{put_mid}
@@ -33,11 +34,10 @@ use Rattle.magnetron.specs.declared.pool.Pools.{Pools}
 use Rattle.magnetron.proofs.Writes.{unseen}
 use Rattle.util.specs.declared.reach.Reach.{Reach}
 use Rattle.stages.specs.declared.state.State.{State}
-use Rattle.stages.specs.declared.reach.StageReach.{StageReach}
 use Rattle.stages.specs.declared.patch.Starts.{Starts}
 use Rattle.stages.specs.Stage.{Own, own, ring_fine}
 use Rattle.stages.specs.Rings.{no_state, len_in, ring_at, fine_in}
-use Rattle.stages.specs.Reach.{stage_reach, all_within}
+use Rattle.stages.specs.Reach.{all_within}
 use Rattle.stages.specs.Inside.{Bounded, starts_of}
 use Rattle.stages.proofs.EndToEnd.{fine-at, sum_step, starts_at, part_put}
 use Rattle.stages.proofs.Positions.{position_stays}
@@ -132,7 +132,7 @@ module _ {P : Plan} {k : ℕ} {ks : List ℕ} {w : World} (ok : Passed P (k ∷ 
   unfolding fault
   ready = record {
     held = held-sided P.pools (stage_at P k).output _ _ _ ok.admitted.pools;
-    sound = sym (passed-named k (fault_of P.pools P.window P.values (stage_at P k) (marks_of w.banks))) ∙ turns.0;
+    sound = sym (passed-named (Some k) (fault_of P.pools P.window P.values (stage_at P k) (marks_of w.banks))) ∙ turns.0;
     fine = fine_here;
     long = ring_long;
   }
@@ -194,7 +194,7 @@ module _ {P : Plan} {k : ℕ} {ks : List ℕ} {w : World} (ok : Passed P (k ∷ 
 
 -- ---- the loop
 
-pub record Along (P : Plan) (ks : List ℕ) (w₀ w : World) (a : StageActivity) (t : List StageReach) (j : ℕ) : Type 0 where
+pub record Along (P : Plan) (ks : List ℕ) (w₀ w : World) (a : StageActivity) (t : List Reach) (j : ℕ) : Type 0 where
   pub still : Passed P (drop j ks) w
   pub world : runs (staged P) (drop j ks) w ≡ runs (staged P) ks w₀
   pub loud : runs (louder P) (drop j ks) a ≡ runs (louder P) ks Exhausted
@@ -208,7 +208,7 @@ module _ {P : Plan} {ks : List ℕ} {w₀ : World} where
   pub along_start : Passed P ks w₀ → Along P ks w₀ w₀ Exhausted all_within.stages 0
   along_start ok = record { still = ok; world = refl; loud = refl; told = refl; long = refl; internal = refl; external = refl; rings = refl }
 
-  module _ {w : World} {a : StageActivity} {t : List StageReach} {j : ℕ} (v : Along P ks w₀ w a t j) where
+  module _ {w : World} {a : StageActivity} {t : List Reach} {j : ℕ} (v : Along P ks w₀ w a t j) where
     pub along_here : j < length ks → Passed P (get_or ks j 0 ∷ drop (j + 1) ks) w
     along_here h = subst (λ (l : List ℕ). Passed P l w) (next_of ks j h) v.still
 
@@ -216,7 +216,7 @@ module _ {P : Plan} {ks : List ℕ} {w₀ : World} where
     stage-below h = omega (arith, stage-there (along_here h), v.still.admitted.few)
 
     pub along_more : (w' : World) (a' : StageActivity) (r : Reach) → j < length ks → w' ≡ staged P (get_or ks j 0) w → a' ≡ runs louder_by (outs_at P (get_or ks j 0)) a
-        → r ≡ told_of P.window P.values (stage_at P (get_or ks j 0)) → Along P ks w₀ w' a' (set t (get_or ks j 0) (stage_reach r)) (j + 1)
+        → r ≡ told_of P.window P.values (stage_at P (get_or ks j 0)) → Along P ks w₀ w' a' (set t (get_or ks j 0) r) (j + 1)
     unfolding staged put_played louder
     along_more w' a' r h e f g =
         rw (e, f, g)

@@ -10,13 +10,13 @@ use lib.Dec.{eqb}
 use lib.ListN.{length, get_or, set, length-set}
 use lib.Seq.{take_all, get_or-set_same, get_or-set_other}
 use borrow.Author.Tests.{eqb-true, eqb-false}
+use Rattle.util.specs.declared.reach.Reach.{Reach}
 use Rattle.util.specs.declared.reach.Reach.TheVariants.{Within}
 use Rattle.order.specs.Order.{runs}
 use Rattle.magnetron.specs.Signals.{tab}
 use Rattle.magnetron.proofs.Bridge.{part_tab, replicate-tab}
 use Rattle.magnetron.proofs.Windows.{tab-length, tab-at, tab_ext}
-use Rattle.stages.specs.declared.reach.StageReach.{StageReach}
-use Rattle.stages.specs.Reach.{stage_reach, all_within}
+use Rattle.stages.specs.Reach.{all_within}
 use Rattle.engine.specs.Run.{Plan, stage_at, holds, told_of, told_at, reaches}
 
 module _ {A : Type 0} where
@@ -46,16 +46,11 @@ module _ {A : Type 0} where
       either i false later e = refl
 
 module _ (P : Plan) where
-  abbrev pub telling : ℕ → List StageReach → List StageReach
-  telling k l = set l k (stage_reach (told_of P.window P.values (stage_at P k)))
+  abbrev pub telling : ℕ → List Reach → List Reach
+  telling k l = set l k (told_of P.window P.values (stage_at P k))
 
   pub told_all : (ks : List ℕ) → runs telling ks all_within.stages ≡ reaches P ks
   unfolding reaches told_at
   told_all ks =
-      ap (runs telling ks) (replicate-tab 32 (stage_reach Within))
-      ∙ sets-tab (λ k. stage_reach (told_of P.window P.values (stage_at P k))) 32 ks (λ i. stage_reach Within)
-      ∙ tab_ext 32 _ _ (λ k h. inside k (holds k ks))
-    where
-      inside : (k : ℕ) (b : Bool) → cond b (stage_reach (told_of P.window P.values (stage_at P k))) (stage_reach Within) ≡ stage_reach (cond b (told_of P.window P.values (stage_at P k)) Within)
-      inside k true = refl
-      inside k false = refl
+      ap (runs telling ks) (replicate-tab 32 Within)
+      ∙ sets-tab (λ k. told_of P.window P.values (stage_at P k)) 32 ks (λ i. Within)

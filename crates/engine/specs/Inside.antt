@@ -1,9 +1,10 @@
 -- What private functions ask and promise, in the definition's words: no reader of a run need believe it. Definitions only. Assumes nothing.
-use Rattle.std.specs.Prelude.{◌≡◌, true, List, [], ◌∷◌, ◌++◌, ℕ, ◌≤◌, ◌<◌, length, Float}
+use Rattle.std.specs.Prelude.{◌≡◌, true, List, [], ◌∷◌, ◌++◌, ℕ, ◌≤◌, ◌<◌, length, Float, Result, Ok, Err, ⊤}
 use Rattle.std.proofs.Math.Option.{Option, none, some}
 use Rattle.order.specs.Order.{Among, runs}
 use Rattle.order.specs.Checks.{passed, verdict}
-use Rattle.answers.specs.declared.verdict.Verdict.{Verdict}
+use Rattle.answers.specs.declared.refusal.Reason.{Reason}
+use Rattle.answers.specs.declared.refusal.Refusal.{Refusal}
 use Rattle.magnetron.specs.Buffers.{pick, Banks, write, pairs, marks_of, stale_at}
 use Rattle.magnetron.specs.Pools.{marks_in, base_of, shape_of, banks_of}
 use Rattle.magnetron.specs.Inside.Room.{Held}
@@ -20,7 +21,6 @@ use Rattle.microwave.specs.Plain.{gained}
 use Rattle.microwave.specs.declared.parameter.Numbers.{Numbers}
 use Rattle.stages.specs.declared.kind.Side.{Side}
 use Rattle.stages.specs.declared.stage.Stage.{Stage}
-use Rattle.stages.specs.declared.patch.Patch.{Patch}
 use Rattle.stages.specs.declared.state.State.{State}
 use Rattle.stages.specs.declared.window.RenderWindow.{RenderWindow}
 use Rattle.stages.specs.declared.machine.Sources.{Sources}
@@ -31,21 +31,23 @@ use Rattle.engine.specs.Run.{Plan, World, sounded, heard_of, played, all_below, 
 
 -- ---- answers
 
--- a refusal with its stage, or 0 and stage 32
-abbrev pub returned : Option Verdict → Verdict
-returned none = record { number = 0; stage = 32 }
-returned (some v) = v
+-- done, or a refusal with its stage
+abbrev pub returned : Option Refusal → Result ⊤ Refusal
+returned none = Ok tt
+returned (some r) = Err r
+
+-- the same of one stage, where the reason says all
+abbrev pub reason_of : Option Reason → Result ⊤ Reason
+reason_of none = Ok tt
+reason_of (some r) = Err r
 
 -- ---- what is given by value, with what is lent
-
-abbrev pub plan_with : Patch → Pools → RenderWindow → List Float → Plan
-plan_with patch pools window values = record { patch = patch; pools = pools; window = window; values = values }
 
 abbrev pub world_with : Marks → List State → List Float → List Float → List Float → World
 world_with m states internal external rings = record { banks = banks_of internal external m; states = states; rings = rings }
 
 abbrev pub plan_in : Records → List Float → Plan
-plan_in r values = plan_with r.patch r.pools r.window values
+plan_in r values = record { patch = r.patch; pools = r.pools; window = r.window; values = values }
 
 abbrev pub world_in : Records → List Float → List Float → List Float → World
 world_in r internal external rings = world_with (marks_in r.pools) r.states.stages internal external rings

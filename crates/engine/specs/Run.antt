@@ -15,7 +15,8 @@
 --     "Activity is that of the output's kind; a run's is the greatest, Exhausted if empty." louder, ended
 -- And 02's, Five:
 --     "The run's result holds, for each stage number, the answer of its last sample, and "within" for .. unordered stages, .. and refusals."    reaches, ended, after_by
-use Rattle.std.specs.Prelude.{Bool, true, false, not, ◌&&◌, ◌||◌, cond, ℕ, eqb, leb, ltb, length, get_or, set, take, drop, Float}
+use Rattle.std.specs.Prelude.{Bool, true, false, not, ◌&&◌, ◌||◌, cond, ℕ, eqb, leb, ltb, length, get_or, set, take, drop, Float, Some, None, Ok, Err}
+use Rattle.std.specs.Prelude as prelude
 use mathlib.Core.List.{List, [], ◌∷◌, ◌++◌, map, zip_with}
 use Rattle.std.proofs.Math.Option.{Option, none, some}
 use Rattle.std.proofs.lemmas.List.Edits.{sets}
@@ -23,10 +24,11 @@ use Rattle.std.specs.Float.{nan}
 use Rattle.numbers.specs.Constants.{zero64}
 use Rattle.order.specs.Order.{runs}
 use Rattle.order.specs.Checks.{unless, first, verdict}
-use Rattle.answers.specs.Answer.{refused_answer, accepted_answer}
 use Rattle.answers.specs.declared.activity.StageActivity.{StageActivity}
 use Rattle.answers.specs.declared.activity.StageActivity.TheVariants.{Exhausted}
-use Rattle.answers.specs.declared.verdict.Verdict.{Verdict}
+use Rattle.answers.specs.declared.refusal.Reason.{Reason}
+use Rattle.answers.specs.declared.refusal.Reason.TheVariants.{Bounds, Window, Order, Ring, Buffer, Parameter, Clash, Outputs}
+use Rattle.answers.specs.declared.refusal.Refusal.{Refusal}
 use Rattle.magnetron.specs.Signals.{tab, state_at, machine}
 use Rattle.magnetron.specs.Buffers.{Shape, Banks, line_at, heard, write, pairs, cleared, marks_of, louder_by}
 use Rattle.magnetron.specs.Pools.{shape_of, banks_of, marks_in, remarked}
@@ -45,10 +47,9 @@ use Rattle.stages.specs.declared.state.State.{State}
 use Rattle.stages.specs.declared.state.States.{States}
 use Rattle.stages.specs.declared.window.RenderWindow.{RenderWindow}
 use Rattle.stages.specs.declared.machine.Machine.{Machine}
-use Rattle.stages.specs.declared.reach.StageReach.{StageReach}
 use Rattle.stages.specs.Stage.{inputs_of, second_of, outputs_of, asks_of, level_asks, Own, own, window_of, settled, machines_by, entered, Hears, hear, next_of, out_of}
 use Rattle.stages.specs.Rings.{no_state, stage_in, len_in, ring_at, rings_ok}
-use Rattle.stages.specs.Reach.{last_reach, stage_reach, all_within}
+use Rattle.stages.specs.Reach.{last_reach, all_within}
 use Rattle.engine.specs.declared.run.Ran.{Ran}
 
 -- ---- what is given, and what changes
@@ -130,40 +131,40 @@ orderly count ks = leb (length ks) 32 && (all_below count ks && not (repeats ks)
 -- "Checks 1 to 4 come first, in that order"
 --     1   "a count of buffers or stages, or a capacity, is over its bound, a pool slice has another length, or the lent zeros aren't exactly one +0.0 per sample of the internal capacity"
 --     2   "the window is longer than the internal capacity, or than the external one where there are external buffers"
-unfoldable pub entry : Plan → List Float → List ℕ → World → Option ℕ
+unfoldable pub entry : Plan → List Float → List ℕ → World → Option Reason
 entry P zeros ks w =
-    first (unless (shape_ok P.pools (length w.banks.internal.samples) (length w.banks.external.samples) zeros && leb P.patch.count 32) 1)
-    (first (unless (window_ok P.pools P.window.buffer_len) 2)
-    (first (unless (orderly P.patch.count ks) 3)
-    (unless (rings_ok P.patch w.states (length w.rings)) 4)))
+    first (unless (shape_ok P.pools (length w.banks.internal.samples) (length w.banks.external.samples) zeros && leb P.patch.count 32) Bounds)
+    (first (unless (window_ok P.pools P.window.buffer_len) Window)
+    (first (unless (orderly P.patch.count ks) Order)
+    (unless (rings_ok P.patch w.states (length w.rings)) Ring)))
 
 -- "Then 5, 6, 7 for each stage along the order.", and 8, "checked after 5 and before 6": of one stage, at the marks of its turn
 --     5   "a stage names a buffer that isn't there"
 --     8   "both outputs are the same buffer at any window length"
 --     6   "a parameter's slot is past the lent values, or a required parameter is absent", "also where just one level of the pair is absent"
 --     7   "the window isn't empty and a stage's output is also one of its inputs and is not stale at its turn": it "looks at both"
-unfoldable pub fault_of : Pools → RenderWindow → List Float → Stage → Marks → Option ℕ
+unfoldable pub fault_of : Pools → RenderWindow → List Float → Stage → Marks → Option Reason
 fault_of pools window values stage m =
-    first (unless (all_there pools (inputs_of stage.kind ++ outputs_of stage)) 5)
-    (first (unless (none_twice (outputs_of stage)) 8)
-    (first (unless (all_found (level_asks stage ++ asks_of stage.kind) values window.render_window_secs) 6)
-    (unless (no_clash window.buffer_len (inputs_of stage.kind) (outputs_of stage) m) 7)))
+    first (unless (all_there pools (inputs_of stage.kind ++ outputs_of stage)) Buffer)
+    (first (unless (none_twice (outputs_of stage)) Outputs)
+    (first (unless (all_found (level_asks stage ++ asks_of stage.kind) values window.render_window_secs) Parameter)
+    (unless (no_clash window.buffer_len (inputs_of stage.kind) (outputs_of stage) m) Clash)))
 
--- a refusal that names its stage
-abbrev pub named : ℕ → Option ℕ → Option Verdict
-named k none = none
-named k (some r) = some (record { number = r; stage = k })
+-- a refusal with its stage, or with none: "the stage (32 for 1 to 4)", where `stage_number` of answers gives 32
+abbrev pub named : prelude.Option ℕ → Option Reason → Option Refusal
+named stage none = none
+named stage (some r) = some (record { reason = r; stage = stage })
 
-unfoldable pub fault : Plan → ℕ → Marks → Option Verdict
-fault P k m = named k (fault_of P.pools P.window P.values (stage_at P k) m)
+unfoldable pub fault : Plan → ℕ → Marks → Option Refusal
+fault P k m = named (Some k) (fault_of P.pools P.window P.values (stage_at P k) m)
 
 -- the marks after its turn: "a buffer is not stale if it wasn't on entry or an earlier stage of this order writes it"
 unfoldable pub turned : Plan → ℕ → Marks → Marks
 turned P k m = runs cleared (outs_at P k) m
 
--- all checks: none, or the first refusal, with "the stage (32 for 1 to 4)"
-unfoldable pub judged : Plan → List Float → List ℕ → World → Option Verdict
-judged P zeros ks w = first (named 32 (entry P zeros ks w)) (verdict (fault P) (turned P) ks (marks_of w.banks))
+-- all checks: none, or the first refusal
+unfoldable pub judged : Plan → List Float → List ℕ → World → Option Refusal
+judged P zeros ks w = first (named None (entry P zeros ks w)) (verdict (fault P) (turned P) ks (marks_of w.banks))
 
 -- ---- one stage over a window
 
@@ -237,17 +238,17 @@ told_of window values stage = last_reach stage.kind (numbers_of (asks_of stage.k
 unfoldable pub told_at : Plan → List ℕ → ℕ → Reach
 told_at P ks k = cond (holds k ks) (told_of P.window P.values (stage_at P k)) Within
 
-unfoldable pub reaches : Plan → List ℕ → List StageReach
-reaches P ks = tab 32 (λ k. stage_reach (told_at P ks k))
+unfoldable pub reaches : Plan → List ℕ → List Reach
+reaches P ks = tab 32 (told_at P ks)
 
 -- ---- the run
 
 pub data Rendered : Type 0 where
-  refused : Verdict → Rendered
-  done : StageActivity → List StageReach → World → Rendered
+  refused : Refusal → Rendered
+  done : StageActivity → List Reach → World → Rendered
 
 -- refused as judged, or all stages in order; "a run's [activity] is the greatest, Exhausted if empty"
-unfoldable pub ended : Plan → List ℕ → World → Option Verdict → Rendered
+unfoldable pub ended : Plan → List ℕ → World → Option Refusal → Rendered
 ended P ks w none = done (runs (louder P) ks Exhausted) (reaches P ks) (runs (staged P) ks w)
 ended P ks w (some r) = refused r
 
@@ -267,11 +268,11 @@ after r internal external rings = record { ran = r; internal = internal; externa
 
 -- "A refusal returns its number, the stage .. and Exhausted; every record and lent slice is unchanged."; "0: done; stage 32"
 unfoldable pub after_by : Plan → World → Rendered → After
-after_by P w (refused v) =
-    after (record { answer = refused_answer v; pools = P.pools; states = record { stages = w.states }; reaches = all_within })
+after_by P w (refused r) =
+    after (record { answer = Err r; pools = P.pools; states = record { stages = w.states }; reaches = all_within })
     w.banks.internal.samples w.banks.external.samples w.rings
 after_by P w (done a told u) =
-    after (record { answer = accepted_answer a; pools = remarked P.pools (marks_of u.banks); states = record { stages = u.states }; reaches = record { stages = told } })
+    after (record { answer = Ok a; pools = remarked P.pools (marks_of u.banks); states = record { stages = u.states }; reaches = record { stages = told } })
     u.banks.internal.samples u.banks.external.samples u.rings
 
 -- THE DEFINITION

@@ -6,13 +6,13 @@ ghost use Rattle.engine.specs.Run.{staged, louder, reaches, done, after, after_b
 ghost use Rattle.engine.specs.Inside.{plan_in, world_in, Passed};
 
 use crate::check::judge;
-use crate::records::Records;
+use crate::records::{Lent, Records};
 use crate::turn::Turn;
 use answers::activity::StageActivity;
-use answers::answer::{Answer, accepted, refused};
+use answers::refusal::Answer;
 use magnetron::pool::Pools;
 use stages::patch::Patch;
-use stages::reach::{Reaches, StageReach, all_within};
+use stages::reach::{Reaches, all_within};
 use stages::state::States;
 use stages::window::render_window;
 
@@ -27,63 +27,55 @@ pub struct Ran {
 
 // The stages along the order, once the checks have passed.
 fn run_order(
-    records: Records,
+    records: &Records,
     order: &[u8],
     internal: &mut [f64],
     external: &mut [f64],
     rings: &mut [f64],
     values: &[f64],
 ) -> Ran
-    requires { Passed (plan_in records values.now) order.now (world_in records internal.old external.old rings.old) }
+    requires { Passed (plan_in records.now values.now) order.now (world_in records.now internal.old external.old rings.old) }
     ensures { after result internal.new external.new rings.new
-        ≡ after_by (plan_in records values.now) (world_in records internal.old external.old rings.old)
-        (done (runs (louder (plan_in records values.now)) order.now Exhausted)
-        (reaches (plan_in records values.now) order.now)
-        (runs (staged (plan_in records values.now)) order.now (world_in records internal.old external.old rings.old))) }
+        ≡ after_by (plan_in records.now values.now) (world_in records.now internal.old external.old rings.old)
+        (done (runs (louder (plan_in records.now values.now)) order.now Exhausted)
+        (reaches (plan_in records.now values.now) order.now)
+        (runs (staged (plan_in records.now values.now)) order.now (world_in records.now internal.old external.old rings.old))) }
 {
-    let patch = records.patch;
     let pools = records.pools;
-    let window = records.window;
-    let starts = patch.ring_starts();
+    let starts = records.patch.ring_starts();
     let mut marks = pools.marks();
     let mut states = records.states;
     let mut reaches = all_within();
     let mut activity = StageActivity::Exhausted;
-    let mut j = 0;
-    while j < order.len() {
-        let k = order[j] as usize;
-        let stage = patch.stages[k];
-        let state = states.stages[k];
+    for x in order {
+        let k = *x as usize;
+        let stage = records.patch.stages[k];
         let at = starts.at[k];
-        let end = at + stage.ring_len();
-        let ring = &mut rings[at..end];
+        let ring = &mut rings[at..at + stage.ring_len()];
         let turn = Turn {
             stage,
-            state,
+            state: states.stages[k],
             marks,
             pools,
-            window,
+            window: records.window,
         };
         let taken = turn.take(values, ring, internal, external);
-        let next = taken.state;
-        let reach = taken.reach;
-        states.stages[k] = next;
-        reaches.stages[k] = StageReach { reach };
+        states.stages[k] = taken.state;
+        reaches.stages[k] = taken.reach;
         let outputs = stage.outputs();
         marks = outputs.clear(marks);
         activity = outputs.louder(activity);
-        j += 1;
     }
     Ran {
-        answer: accepted(activity),
+        answer: Ok(activity),
         pools: pools.with_marks(marks),
         states,
         reaches,
     }
 }
 
-// A run of n samples, each `width` seconds wide. Answers 0, stage 32 and the greatest activity, or the first refusal; and by stage number whether
-// the last sample of its string was within its ring.
+// A run of n samples, each `width` seconds wide. Answers the greatest activity, or the first refusal; and by stage number whether the last sample
+// of its string was within its ring.
 pub fn run(
     patch: Patch,
     order: &[u8],
@@ -100,21 +92,27 @@ pub fn run(
     ensures { after result internal.new external.new rings.new
         ≡ run_of (given patch pools states n width internal.old external.old zeros.now rings.old values.now) order.now }
 {
-    let window = render_window(n, width);
     let records = Records {
         patch,
         pools,
         states,
-        window,
+        window: render_window(n, width),
     };
-    let verdict = judge(records, order, internal, external, zeros, rings, values);
-    if verdict.number != 0 {
+    let lent = Lent {
+        order,
+        internal,
+        external,
+        zeros,
+        rings,
+        values,
+    };
+    if let Err(refusal) = judge(&records, &lent) {
         return Ran {
-            answer: refused(verdict),
+            answer: Err(refusal),
             pools,
             states,
             reaches: all_within(),
         };
     }
-    run_order(records, order, internal, external, rings, values)
+    run_order(&records, order, internal, external, rings, values)
 }

@@ -13,9 +13,9 @@ use magnetron::inputs::Inputs;
 use magnetron::output::Target;
 use magnetron::pool::Pools;
 use magnetron::source::{Source, source_of};
-use microwave::parameter::{Asks, first_number, numbers_found, of_pair, required};
+use microwave::parameter::{first_number, numbers_found, of_pair, required};
 use microwave::window::gain_window;
-use stages::kind::{Second, Side};
+use stages::kind::Side;
 use stages::machine::Sources;
 use stages::stage::Stage;
 use stages::state::State;
@@ -75,31 +75,29 @@ fn target_of(pools: Pools, marks: Marks, samples: usize, output: BufferIndex, le
 
 impl Turn {
     // One window of the stage's own output: `own` is its pool, `ring` the stage's ring.
-    fn render(self, values: &[f64], ring: &mut [f64], own: &mut [f64], other: &[f64]) -> Taken
-        requires { Ready self.pools self.window values.now self.stage self.marks (owned self.state ring.old) own.old other.now }
-        ensures reach_value { result.reach ≡ told_of self.window values.now self.stage }
-        ensures begun { Begun self.pools self.window values.now self.stage
-            (owned self.state ring.old) (sided self.stage.output own.old other.now self.marks)
-            (owned result.state ring.new) (sided self.stage.output own.new other.now (cleared self.stage.output self.marks)) }
+    fn render(&self, values: &[f64], ring: &mut [f64], own: &mut [f64], other: &[f64]) -> Taken
+        requires { Ready self.now.pools self.now.window values.now self.now.stage self.now.marks (owned self.now.state ring.old) own.old other.now }
+        ensures reach_value { result.reach ≡ told_of self.now.window values.now self.now.stage }
+        ensures begun { Begun self.now.pools self.now.window values.now self.now.stage
+            (owned self.now.state ring.old) (sided self.now.stage.output own.old other.now self.now.marks)
+            (owned result.state ring.new) (sided self.now.stage.output own.new other.now (cleared self.now.stage.output self.now.marks)) }
     {
         let stage = self.stage;
-        let kind = stage.kind;
-        let output = stage.output;
-        let seconds = self.window.render_window_secs;
-        let level = first_number(stage.level_asks(), values, seconds);
-        let numbers = kind.numbers(values, seconds);
+        let window = self.window;
+        let level = first_number(stage.level_asks(), values, window.render_window_secs);
+        let numbers = stage.kind.numbers(values, window.render_window_secs);
         let target = target_of(
             self.pools,
             self.marks,
-            self.window.buffer_len,
-            output,
+            window.buffer_len,
+            stage.output,
             level,
         );
-        let inputs = sources(kind.inputs(), self.pools, self.marks, output);
-        let machine = kind.settle(numbers, self.window, self.state);
-        let reach = machine.reach(self.window.buffer_len);
+        let inputs = sources(stage.kind.inputs(), self.pools, self.marks, stage.output);
+        let machine = stage.kind.settle(numbers, window, self.state);
+        let reach = machine.reach(window.buffer_len);
         let state = machine.play(
-            kind.enter(numbers, self.state),
+            stage.kind.enter(numbers, self.state),
             ring,
             own,
             other,
@@ -111,95 +109,71 @@ impl Turn {
 
     // The kind of the stage's own output picks the pool that is written.
     fn begin(
-        self,
+        &self,
         values: &[f64],
         ring: &mut [f64],
         internal: &mut [f64],
         external: &mut [f64],
     ) -> Taken
-        requires { Ready self.pools self.window values.now self.stage self.marks (owned self.state ring.old)
-            (pick self.stage.output internal.old external.old) (pick self.stage.output external.old internal.old) }
-        ensures reach_value { result.reach ≡ told_of self.window values.now self.stage }
-        ensures begun { Begun self.pools self.window values.now self.stage
-            (owned self.state ring.old) (banks_of internal.old external.old self.marks)
-            (owned result.state ring.new) (banks_of internal.new external.new (cleared self.stage.output self.marks)) }
+        requires { Ready self.now.pools self.now.window values.now self.now.stage self.now.marks (owned self.now.state ring.old)
+            (pick self.now.stage.output internal.old external.old) (pick self.now.stage.output external.old internal.old) }
+        ensures reach_value { result.reach ≡ told_of self.now.window values.now self.now.stage }
+        ensures begun { Begun self.now.pools self.now.window values.now self.now.stage
+            (owned self.now.state ring.old) (banks_of internal.old external.old self.now.marks)
+            (owned result.state ring.new) (banks_of internal.new external.new (cleared self.now.stage.output self.now.marks)) }
     {
-        let stage = self.stage;
-        let output = stage.output;
-        match output {
-            BufferIndex::External(_) => {
-                return self.render(values, ring, external, internal);
-            }
-            BufferIndex::Internal(_) => {
-                return self.render(values, ring, internal, external);
-            }
+        match self.stage.output {
+            BufferIndex::External(_) => self.render(values, ring, external, internal),
+            BufferIndex::Internal(_) => self.render(values, ring, internal, external),
         }
     }
 
     // One window of a second output, once the stage's own is written: the marks, and so what is heard, are still those of before.
-    fn render_second(self, side: Side, values: &[f64], own: &mut [f64], other: &[f64])
-        requires { Wired self.pools self.window self.stage self.marks side.output own.old other.now }
-        ensures { own.new ≡ second_in self.pools self.window values.now self.stage self.marks side own.old other.now }
+    fn render_second(&self, side: Side, values: &[f64], own: &mut [f64], other: &[f64])
+        requires { Wired self.now.pools self.now.window self.now.stage self.now.marks side.output own.old other.now }
+        ensures { own.new ≡ second_in self.now.pools self.now.window values.now self.now.stage self.now.marks side own.old other.now }
     {
         let stage = self.stage;
-        let kind = stage.kind;
-        let output = side.output;
-        let level = side.out_level;
-        let left_level = stage.out_level;
-        let gain = side.gain;
-        let asks = Asks::Two(of_pair(level, left_level), required(gain));
-        let numbers = numbers_found(asks, values, self.window.render_window_secs);
+        let window = self.window;
+        let asks = [
+            of_pair(side.out_level, stage.out_level),
+            required(side.gain),
+        ];
+        let numbers = numbers_found(asks, values, window.render_window_secs);
         let target = target_of(
             self.pools,
             self.marks,
-            self.window.buffer_len,
-            output,
+            window.buffer_len,
+            side.output,
             numbers.first,
         );
-        let inputs = sources(kind.inputs(), self.pools, self.marks, output);
-        let first = inputs.first;
-        gain_window(numbers.second, own, other, first, target);
+        let inputs = sources(stage.kind.inputs(), self.pools, self.marks, side.output);
+        gain_window(numbers.second, own, other, inputs.first, target);
     }
 
-    // Both outputs, or the one that there is: by itself it is rendered here, for `begin` would copy the turn once more.
+    // Both outputs, or the one that there is.
     pub(crate) fn take(
-        self,
+        &self,
         values: &[f64],
         ring: &mut [f64],
         internal: &mut [f64],
         external: &mut [f64],
     ) -> Taken
-        requires { Ready self.pools self.window values.now self.stage self.marks (owned self.state ring.old)
-            (pick self.stage.output internal.old external.old) (pick self.stage.output external.old internal.old) }
-        ensures reach_value { result.reach ≡ told_of self.window values.now self.stage }
-        ensures turned { Turned self.pools self.window values.now self.stage
-            (owned self.state ring.old) (banks_of internal.old external.old self.marks)
-            (owned result.state ring.new) (banks_of internal.new external.new (runs cleared (outputs_of self.stage) self.marks)) }
+        requires { Ready self.now.pools self.now.window values.now self.now.stage self.now.marks (owned self.now.state ring.old)
+            (pick self.now.stage.output internal.old external.old) (pick self.now.stage.output external.old internal.old) }
+        ensures reach_value { result.reach ≡ told_of self.now.window values.now self.now.stage }
+        ensures turned { Turned self.now.pools self.now.window values.now self.now.stage
+            (owned self.now.state ring.old) (banks_of internal.old external.old self.now.marks)
+            (owned result.state ring.new) (banks_of internal.new external.new (runs cleared (outputs_of self.now.stage) self.now.marks)) }
     {
-        let stage = self.stage;
-        let kind = stage.kind;
-        let output = stage.output;
-        let Second::Right(side) = kind.second() else {
-            match output {
-                BufferIndex::External(_) => {
-                    return self.render(values, ring, external, internal);
-                }
-                BufferIndex::Internal(_) => {
-                    return self.render(values, ring, internal, external);
-                }
-            }
-        };
         let taken = self.begin(values, ring, internal, external);
-        let right = side.output;
-        match right {
-            BufferIndex::External(_) => {
-                self.render_second(side, values, external, internal);
-                return taken;
-            }
-            BufferIndex::Internal(_) => {
-                self.render_second(side, values, internal, external);
-                return taken;
-            }
+        let Some(side) = self.stage.kind.second() else {
+            return taken;
+        };
+        match side.output {
+            BufferIndex::External(_) => self.render_second(side, values, external, internal),
+            BufferIndex::Internal(_) => self.render_second(side, values, internal, external),
         }
+        taken
     }
 }

@@ -8,12 +8,13 @@
 -- Assumes nothing.
 use mathlib.Core.Path.{◌≡◌, refl, sym, ap, ap₂, subst, ◌∙◌}
 use mathlib.Core.Logic.{◌≢◌, inl, inr}
-use mathlib.Core.Bool.{Bool, true, false, not, true≢false}
+use mathlib.Core.Bool.{Bool, true, not}
 use mathlib.Core.List.{List, [], ◌∷◌, ◌++◌, map, zip_with}
 use Prim.Native.Nat.{ℕ, ◌+◌, ◌<◌, ◌≤◌}
 use lib.ListN.{length}
 use lib.Ieee.{Float}
 use borrow.Author.Tests.{not-true}
+use Rattle.std.specs.Prelude.{Option, None, Some}
 use Rattle.numbers.specs.Constants.{zero64}
 use Rattle.order.specs.Order.{Among, runs}
 use Rattle.answers.proofs.Tests.{and_left}
@@ -44,8 +45,6 @@ use Rattle.microwave.specs.declared.parameter.Numbers.{Numbers}
 use Rattle.microwave.specs.declared.parameter.Ask.{Ask}
 use Rattle.stages.specs.declared.kind.Kind.{Kind}
 use Rattle.stages.specs.declared.kind.Kind.TheVariants.{Pass, Pow3, Clip, Filter, Oscillator, ModOscillator, Waveguide, RingModulator, Pan}
-use Rattle.stages.specs.declared.kind.Second.{Second}
-use Rattle.stages.specs.declared.kind.Second.TheVariants.{Nothing, Right}
 use Rattle.stages.specs.declared.kind.Side.{Side}
 use Rattle.stages.specs.declared.stage.Stage.{Stage}
 use Rattle.stages.specs.declared.window.RenderWindow.{RenderWindow}
@@ -140,9 +139,9 @@ module _ {p : Pools} {w : RenderWindow} {t : Stage} {m : Marks} {output : Buffer
 -- ---- the stage's own output
 
 -- it is the first of all
-first_output : (s : Second) (output : BufferIndex) → Among output (outputs_by s output)
-first_output Nothing output = inl refl
-first_output (Right side) output = inl refl
+first_output : (s : Option Side) (output : BufferIndex) → Among output (outputs_by s output)
+first_output None output = inl refl
+first_output (Some side) output = inl refl
 
 module _ {p : Pools} {w : RenderWindow} {values : List Float} {t : Stage} {m : Marks} {o : Own} {own other : List Float}
     (r : Ready p w values t m o own other) where
@@ -189,41 +188,37 @@ sided-both (Internal k) internal external m = refl
 
 -- the writes of a stage, by its second output
 module _ (h : Shape) (sound : Float → Machine → List Float) (number : Ask → Float) (output : BufferIndex) (level : Parameter) (m : Machine) (q : Numbers) (b : Banks) where
-  abbrev writes : Second → Banks
+  abbrev writes : Option Side → Banks
   writes s = runs (write h) (pairs (outputs_by s output) (zip_with sound (map number (levels_by s level)) (machines_by s m q))) b
 
-  abbrev first-write : Second → Banks
+  abbrev first-write : Option Side → Banks
   first-write s = write h (record { to = output; values = sound (number (ask_at (levels_by s level) 0)) m }) b
 
-  one-write : (s : Second) → Nothing ≡ s → first-write s ≡ writes s
+  one-write : (s : Option Side) → None ≡ s → first-write s ≡ writes s
   unfolding zip_with
   one-write s e = rw (sym e) refl
 
-  two_writes : (s : Second) (side : Side) → Right side ≡ s
+  two_writes : (s : Option Side) (side : Side) → Some side ≡ s
       → write h (record { to = side.output; values = sound (number (of_pair side.out_level level)) (machine.Gain q.second) }) (first-write s) ≡ writes s
   unfolding zip_with
   two_writes s side e = rw (sym e) refl
 
 -- and its outputs
-second_output_lem : (s : Second) (side : Side) (output : BufferIndex) → Right side ≡ s → Among side.output (outputs_by s output)
+second_output_lem : (s : Option Side) (side : Side) (output : BufferIndex) → Some side ≡ s → Among side.output (outputs_by s output)
 second_output_lem s side output e = rw (sym e) (inr (inl refl))
 
-second_differs : (s : Second) (side : Side) (output : BufferIndex) → Right side ≡ s → none_twice (outputs_by s output) ≡ true → side.output ≢ output
+second_differs : (s : Option Side) (side : Side) (output : BufferIndex) → Some side ≡ s → none_twice (outputs_by s output) ≡ true → side.output ≢ output
 second_differs s side output e d q = hits_none output (side.output ∷ []) (not-true _ (and_left (not (hits output (side.output ∷ []))) true (rw (sym e) at d))) side.output (inl refl) (sym q)
 
 -- its gain is the second parameter that the stage asks for
-abbrev is_right : Second → Bool
-is_right Nothing = false
-is_right (Right side) = true
+abbrev gain_of : Option Side → Parameter
+gain_of None = Absent
+gain_of (Some side) = side.gain
 
-abbrev gain_of : Second → Parameter
-gain_of Nothing = Absent
-gain_of (Right side) = side.gain
+not_nothing : (side : Side) → Some side ≡ None → ⊥
+not_nothing side q = cc
 
-not_nothing : (side : Side) → Right side ≡ Nothing → ⊥
-not_nothing side q = true≢false (ap is_right q)
-
-second-gain : (kind : Kind) (side : Side) → Right side ≡ second_of kind → (values : List Float) (seconds : Float)
+second-gain : (kind : Kind) (side : Side) → Some side ≡ second_of kind → (values : List Float) (seconds : Float)
     → number_for (required side.gain) values seconds ≡ (numbers_of (asks_of kind) values seconds).second
 unfolding numbers_of
 second-gain (Pass a) side q values seconds = absurd (not_nothing side q)
@@ -234,7 +229,7 @@ second-gain (Oscillator k) side q values seconds = absurd (not_nothing side q)
 second-gain (ModOscillator a k m) side q values seconds = absurd (not_nothing side q)
 second-gain (Waveguide a g) side q values seconds = absurd (not_nothing side q)
 second-gain (RingModulator a b) side q values seconds = absurd (not_nothing side q)
-second-gain (Pan a gain right) side q values seconds = ap (λ (s : Second). number_for (required (gain_of s)) values seconds) q
+second-gain (Pan a gain right) side q values seconds = ap (λ (s : Option Side). number_for (required (gain_of s)) values seconds) q
 
 module _ (p : Pools) (w : RenderWindow) (values : List Float) (t : Stage) (m : Marks) (o : Own) (internal external : List Float) where
   abbrev before : Banks
@@ -243,7 +238,7 @@ module _ (p : Pools) (w : RenderWindow) (values : List Float) (t : Stage) (m : M
   abbrev shape : Shape
   shape = shape_of p w.buffer_len
 
-  abbrev second : Second
+  abbrev second : Option Side
   second = second_of t.kind
 
   abbrev sounds : Float → Machine → List Float
@@ -256,17 +251,17 @@ module _ (p : Pools) (w : RenderWindow) (values : List Float) (t : Stage) (m : M
   all_cleared = runs cleared (outputs_of t) m
 
   module _ {o' : Own} {internal' external' : List Float} (first : Begun p w values t o before o' (banks_of internal' external' (cleared t.output m))) where
-    pub one-done : Nothing ≡ second → Turned p w values t o before o' (banks_of internal' external' all_cleared)
+    pub one-done : None ≡ second → Turned p w values t o before o' (banks_of internal' external' all_cleared)
     one-done q = record {
       kept = first.kept;
       banks =
-          ap (λ (s : Second). banks_of internal' external' (runs cleared (outputs_by s t.output) m)) (sym q)
+          ap (λ (s : Option Side). banks_of internal' external' (runs cleared (outputs_by s t.output) m)) (sym q)
           ∙ first.banks
           ∙ one-write shape sounds number t.output t.out_level (settled t.kind (numbers_in values w t) w o.state) (numbers_in values w t) before second q;
     }
 
     module _ (r : Ready p w values t m o (pick t.output internal external) (pick t.output external internal))
-        (same-internal : length internal' ≡ length internal) (same-external : length external' ≡ length external) {side : Side} (q : Right side ≡ second) where
+        (same-internal : length internal' ≡ length internal) (same-external : length external' ≡ length external) {side : Side} (q : Some side ≡ second) where
       held_here : Held p (length internal) (length external) w.buffer_len
       held_here = held_whole p t.output internal external _ r.held
 
@@ -296,7 +291,7 @@ module _ (p : Pools) (w : RenderWindow) (values : List Float) (t : Stage) (m : M
       done own' e = record {
         kept = first.kept;
         banks =
-            ap (λ (s : Second). sided side.output own' (pick side.output external' internal') (runs cleared (outputs_by s t.output) m)) (sym q)
+            ap (λ (s : Option Side). sided side.output own' (pick side.output external' internal') (runs cleared (outputs_by s t.output) m)) (sym q)
             ∙ (wrote wired right_level (machine.Gain right_gain) (start_in values w t o) (cleared t.output m)
             (mark_other side.output t.output m (second_differs second side t.output q (told r).is_differing))
             (gain-stepped (sources_of p m side.output (inputs_of t.kind)) (pick side.output external' internal') e)).1

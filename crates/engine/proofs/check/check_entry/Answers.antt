@@ -1,19 +1,25 @@
 -- `engine::check::check_entry` meets its contract: the first of 1 to 4 that fails, or none. Assumes nothing.
-use Rattle.answers.proofs.Tests.{holds, fails}
-use Rattle.engine.proofs.Entries.{too_many, lent_stops, order_stops, rings_stop, all_pass}
+use mathlib.Core.Path.{◌≡◌, ◌∙◌}
+use Rattle.std.proofs.Common.{rules, Err}
+use Rattle.answers.specs.Refusal.{verdict_of}
+use Rattle.engine.proofs.Entries.{too_many, prepare_stops, order_stops, then_rings}
 use Rattle.engine.proofs.check.check_entry.Goals as goal
 
 pub returns-then-records-gt32 : goal.returns-then-records-gt32
-returns-then-records-gt32 c = rw c.refusal.ensures (too_many _ _ _ _ c.if-records-gt32.true)
+unfolding verdict_of
+returns-then-records-gt32 c = rw c.into.ensures (too_many _ _ _ _ c.if-records-gt32.true)
 
-pub returns-then-lent-ne0 : goal.returns-then-lent-ne0
-returns-then-lent-ne0 c = lent_stops _ _ _ _ c.if-records-gt32.false _ c.check_prepare-lent.ensures c.if-lent-ne0.true
+pub returns-in_err-check_prepare : goal.returns-in_err-check_prepare
+returns-in_err-check_prepare c =
+    let same : c.from_residual.result ≡ Err c.in_err-check_prepare.field-0.0 = search rules in
+    same ∙ prepare_stops _ _ _ _ c.if-records-gt32.false c.in_err-check_prepare.ensures
 
-pub returns-then-not-order_ok : goal.returns-then-not-order_ok
-returns-then-not-order_ok c = rw c.refusal-then-not-order_ok.ensures (order_stops _ _ _ _ c.if-records-gt32.false _ c.check_prepare-lent.ensures c.if-lent-ne0.false (fails c.order_ok.ensures c.if-not-order_ok.true))
-
-pub returns-then-not-rings_ok : goal.returns-then-not-rings_ok
-returns-then-not-rings_ok c = rw c.refusal-then-not-rings_ok.ensures (rings_stop _ _ _ _ c.if-records-gt32.false _ c.check_prepare-lent.ensures c.if-lent-ne0.false (holds c.order_ok.ensures c.if-not-order_ok.false) (fails c.rings_ok.ensures c.if-not-rings_ok.true))
+pub returns-in_err-refusal_unless : goal.returns-in_err-refusal_unless
+returns-in_err-refusal_unless c =
+    let same : c.from_residual-in_err-refusal_unless.result ≡ Err c.in_err-refusal_unless.field-0.0 = search rules in
+    same ∙ order_stops _ _ _ _ c.if-records-gt32.false c.in_ok-check_prepare.ensures (rw c.order_ok.ensures at c.in_err-refusal_unless.ensures)
 
 pub returns : goal.returns
-returns c = rw c.done.ensures (all_pass _ _ _ _ c.if-records-gt32.false _ c.check_prepare-lent.ensures c.if-lent-ne0.false (holds c.order_ok.ensures c.if-not-order_ok.false) (holds c.rings_ok.ensures c.if-not-rings_ok.false))
+returns c =
+    rw c.rings_ok.ensures at c.refusal_unless-2.ensures
+    ∙ then_rings _ _ _ _ c.if-records-gt32.false c.in_ok-check_prepare.ensures (rw c.order_ok.ensures at c.in_ok-refusal_unless.ensures)

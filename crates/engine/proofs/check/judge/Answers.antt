@@ -1,24 +1,29 @@
--- `engine::check::judge` meets its contract: 1 to 4, then 5 to 7 along the order. Assumes nothing.
-use Rattle.engine.specs.Inside.{plan_in, world_in}
+-- `engine::check::judge` meets its contract: 1 to 4, then 5 to 8 along the order. Assumes nothing.
+use mathlib.Core.Path.{◌≡◌, ◌∙◌}
 use mathlib.Core.List.{[]}
+use Rattle.std.proofs.Common.{rules, Err}
+use Rattle.engine.specs.Inside.{plan_in, world_in}
 use Rattle.engine.specs.Run.{entry}
 use Rattle.engine.proofs.Entries.{entry-told}
 use Rattle.engine.proofs.Judged.{entry_stops, entry-passed, entry_goes}
 use Rattle.engine.proofs.check.judge.Goals as goal
 
-pub returns-then-first-ne0 : goal.returns-then-first-ne0
+pub returns-in_err-check_entry : goal.returns-in_err-check_entry
 unfolding entry
-returns-then-first-ne0 c = entry_stops _ _ _ _ _ c.check_entry-first.ensures c.if-first-ne0.true
+returns-in_err-check_entry c =
+    let same : c.from_residual.result ≡ Err c.in_err-check_entry.field-0.0 = search rules in
+    same ∙ entry_stops _ _ _ _ c.in_err-check_entry.ensures
 
 pub check_stages-requires : goal.check_stages-requires
 unfolding entry
 check_stages-requires c =
     let a = c.args in
-    let P = plan_in a.records [] in
-    let w = world_in a.records a.internal.now a.external.now a.rings.now in
-    let t = entry-told P a.zeros.now a.order.now w (entry-passed P a.zeros.now a.order.now w _ c.check_entry-first.ensures c.if-first-ne0.false) in
+    let P = plan_in a.records.now [] in
+    let l = a.lent.now in
+    let w = world_in a.records.now l.internal.now l.external.now l.rings.now in
+    let t = entry-told P l.zeros.now l.order.now w (entry-passed P l.zeros.now l.order.now w c.in_ok-check_entry.ensures) in
     (t.few, t.below)
 
 pub returns : goal.returns
 unfolding entry
-returns c = entry_goes _ _ _ _ _ c.check_entry-first.ensures c.if-first-ne0.false _ c.check_stages.ensures
+returns c = entry_goes _ _ _ _ c.in_ok-check_entry.ensures c.check_stages.ensures
