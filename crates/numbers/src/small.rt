@@ -18,6 +18,7 @@ pub fn maximum(x: f64, y: f64) -> f64
 }
 
 // If one is NaN, the other; if equal, the first.
+// Stays: a second function, since one for both would be told by a closure which of two comes first, and say no more than this line does.
 pub fn minimum(x: f64, y: f64) -> f64
     ensures { result ≡ min_of x y }
 {

@@ -15,6 +15,6 @@ pub returns-then-x-3 : goal.returns-then-x-3
 unfolding reduced
 returns-then-x-3 c = simp (c.if-x.false, c.if-x-2.false, c.if-x-3.true)
 
-pub returns-else-x-3 : goal.returns-else-x-3
+pub returns : goal.returns
 unfolding reduced
-returns-else-x-3 c = simp (c.if-x.false, c.if-x-2.false, c.if-x-3.false)
+returns c = simp (c.if-x.false, c.if-x-2.false, c.if-x-3.false)

@@ -22,9 +22,9 @@ returns-then-x c =
     let within = contains_is zero64 one64 c.args.x _ _ _ _ ends.start ends.end ends.exhausted c.contains.ensures.value in
     simp (both_tests, within, c.if-not-contains.false, c.if-x.true, c.quarter_sine-s.ensures, c.reduced_turn.ensures)
 
-pub returns-else-x : goal.returns-else-x
+pub returns : goal.returns
 unfolding sine_of turn_sine
-returns-else-x c =
+returns c =
     let ends = c.new.ensures in
     let within = contains_is zero64 one64 c.args.x _ _ _ _ ends.start ends.end ends.exhausted c.contains.ensures.value in
     simp (both_tests, within, c.if-not-contains.false, c.if-x.false, c.quarter_sine-s.ensures, c.reduced_turn.ensures) (zero_less _ (quarter_fits _))
