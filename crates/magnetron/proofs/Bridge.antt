@@ -1,5 +1,5 @@
 -- From what a loop leaves (`window`, a signal) to what the definitions say (lines: lists of n samples, `sets`).
---     part_tab, replicate-tab, map-tab, zip_tab    lists as the first n samples of a signal
+--     part_tab, tab_of, replicate-tab, map-tab, zip_tab    lists as the first n samples of a signal
 --     window-sets     a signal's first n samples stored from base on
 --     line_window     a line laid over a buffer is what the loop through `mix` leaves there
 --     heard-tab       what is heard of a buffer, as a signal
@@ -9,6 +9,7 @@ use mathlib.Core.Path.{◌≡◌, refl, sym, ap, ap₂, ◌∙◌}
 use mathlib.Core.Bool.{Bool, true, false, cond}
 use mathlib.Core.List.{List, [], ◌∷◌, ◌++◌, append_assoc, map, zip_with}
 use Prim.Native.Nat.{ℕ, zero, suc, ◌+◌, ◌<◌, ◌≤◌}
+use native.Mathlib.Nat.{zero-add}
 use native.Mathlib.Numerals.{add-one}
 use native.Mathlib.Omega.{arith}
 use lib.ListN.{length, get_or, take, drop, length-drop, replicate, replicate-append-replicate}
@@ -19,7 +20,7 @@ use Rattle.magnetron.specs.Buffers.{heard, laid}
 use Rattle.magnetron.specs.Signals.{tab, window, state_at, machine}
 use Rattle.magnetron.specs.Inside.Mix.{from, mixed}
 use Rattle.magnetron.specs.Single.{levelled}
-use Rattle.magnetron.proofs.Windows.{tab-length}
+use Rattle.magnetron.proofs.Windows.{tab-length, tab_ext}
 
 module _ {A : Type 0} where
   pub part_tab : (d : List A) (base n : ℕ) (z : A) → base + n ≤ length d → take n (drop base d) ≡ tab n (λ i. get_or d (base + i) z)
@@ -28,6 +29,11 @@ module _ {A : Type 0} where
   part_tab d base (suc n) z h =
       take-suc (drop base d) n z (omega (arith, length-drop base d))
       ∙ ap₂ (λ (l : List A) (x : A). l ++ (x ∷ [])) (part_tab d base n z (omega arith)) (get_or-drop base d n z)
+
+  -- a list of n elements, each of which is the signal's
+  pub tab_of : (l : List A) (n : ℕ) (g : ℕ → A) (z : A) → length l ≡ n → ((k : ℕ) → k < n → get_or l k z ≡ g k) → l ≡ tab n g
+  tab_of l n g z long each = sym (take_all n l (omega (arith, long))) ∙ part_tab l 0 n z (omega (arith, long))
+      ∙ tab_ext n _ g (λ k h. ap (λ (j : ℕ). get_or l j z) (zero-add k) ∙ each k h)
 
   pub replicate-tab : (n : ℕ) (a : A) → replicate n a ≡ tab n (λ i. a)
   unfolding tab

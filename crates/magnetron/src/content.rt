@@ -6,7 +6,7 @@ ghost use Rattle.magnetron.specs.Inside.Mix.{times};
 ghost use Rattle.magnetron.specs.Inside.Target.{LiesIn, WrittenTo, written};
 ghost use Rattle.magnetron.specs.Inside.Content.{content_of, AllInReach, AllClear};
 
-use crate::block::{fetch_block, write_block};
+use crate::block::{block_of, fetch_block, write_block};
 use crate::output::{Target, write_sample};
 use crate::source::{Source, fetch};
 
@@ -36,13 +36,7 @@ fn sample(own: &[f64], other: &[f64], content: Content, i: usize) -> f64
 fn product_block(first: [f64; 8], second: [f64; 8]) -> [f64; 8]
     ensures { result ≡ tab 8 (times (λ k. get_or first k nan) (λ k. get_or second k nan)) }
 {
-    let mut block = [0.0; 8];
-    let mut k = 0;
-    while k < 8 {
-        block[k] = first[k] * second[k];
-        k += 1;
-    }
-    block
+    block_of(|k| first[k] * second[k])
 }
 
 // Eight samples of a content, from i on.
@@ -65,13 +59,13 @@ fn lay_blocks(own: &mut [f64], other: &[f64], content: Content, target: Target) 
     requires { (LiesIn target own.old) × (AllClear content own.old other.now target) }
     ensures { WrittenTo own.old target (content_of content own.old other.now) result own.new }
 {
-    let mut i = 0;
-    while 8 <= target.samples - i {
+    let blocks = target.samples / 8;
+    for block in 0..blocks {
+        let i = 8 * block;
         let x = sample_block(own, other, content, i);
         write_block(own, target, i, x);
-        i += 8;
     }
-    i
+    8 * blocks
 }
 
 // Writes a content where the target says, clear of what is read: blocks, and then what is left of the window.
@@ -79,10 +73,9 @@ pub(crate) fn lay(own: &mut [f64], other: &[f64], content: Content, target: Targ
     requires { (LiesIn target own.old) × (AllClear content own.old other.now target) }
     ensures { own.new ≡ written own.old target (content_of content own.old other.now) }
 {
-    let mut i = lay_blocks(own, other, content, target);
-    while i < target.samples {
+    let done = lay_blocks(own, other, content, target);
+    for i in done..target.samples {
         let x = sample(own, other, content, i);
         write_sample(own, target, i, x);
-        i += 1;
     }
 }

@@ -35,17 +35,13 @@ impl Pool {
     }
 
     // Every buffer that is there is stale; the marks past the count stay.
-    pub(crate) fn all_stale(mut self) -> Pool
+    pub(crate) fn all_stale(self) -> Pool
         requires { self.count ≤ 16 }
         ensures { result ≡ all_stale self }
     {
-        let count = self.count;
-        let mut i = 0;
-        while i < count {
-            self.stale[i] = true;
-            i += 1;
-        }
-        self
+        let mut stale = self.stale;
+        stale[..self.count].fill(true);
+        self.with_stale(stale)
     }
 }
 

@@ -1,11 +1,8 @@
-use mathlib.Core.Path.{refl}
-use native.Mathlib.Omega.{arith}
-use borrow.Author.Rules.{rules}
-use Rattle.magnetron.proofs.Blocks.{filled_start, filled_more}
+-- `magnetron::block::scaled` meets its contract: each sample is what the function answered there. Assumes nothing.
+use lib.Ieee.{nan}
+use Rattle.std.proofs.Common.{rules}
+use Rattle.magnetron.proofs.Bridge.{tab_of}
 use Rattle.magnetron.proofs.block.scaled.Goals as goal
 
-pub loop-k-init : goal.loop-k-init
-loop-k-init c = filled_start (search rules)
-
-pub loop-k-preserved : goal.loop-k-preserved
-loop-k-preserved c = filled_more c.loop-k.invariant (omega arith) refl
+pub returns : goal.returns
+returns c = tab_of _ 8 _ nan c.block_of.ensures.long (λ k h. search (rules, c.block_of.ensures.each k h))
