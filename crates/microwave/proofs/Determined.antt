@@ -15,15 +15,14 @@ use Rattle.microwave.proofs.parameter.first_number.Reads as first-number
 use Rattle.microwave.proofs.parameter.numbers_found.Reads as numbers-found
 use Rattle.microwave.proofs.plain.clip_limit.Reads as clip-limit
 use Rattle.microwave.proofs.plain.Shape.shaped.Reads as shaped
-use Rattle.microwave.proofs.oscillator.Modulation.driven.Reads as driven
 use Rattle.microwave.proofs.oscillator.OscillatorType.wave.Reads as wave
 use Rattle.microwave.proofs.oscillator.d_phase.Reads as d-phase
 use Rattle.microwave.proofs.oscillator.Phases.enter.Reads as enter
 use Rattle.microwave.proofs.oscillator.Phases.step.Reads as oscillator-step
-use Rattle.microwave.proofs.filter.FilterType.asks.Reads as asks
-use Rattle.microwave.proofs.filter.FilterType.numbers.Reads as numbers
-use Rattle.microwave.proofs.filter.FilterType.with_numbers.Reads as with-numbers
-use Rattle.microwave.proofs.filter.Filter.coefficients.Reads as coefficients
+use Rattle.microwave.proofs.filter.Filter+Parameter.asks.Reads as asks
+use Rattle.microwave.proofs.filter.Filter+Parameter.numbers.Reads as numbers
+use Rattle.microwave.proofs.filter.Filter+Parameter.with_numbers.Reads as with-numbers
+use Rattle.microwave.proofs.filter.Filter+f64.coefficients.Reads as coefficients
 use Rattle.microwave.proofs.filter.OnePoleMemory.step.Reads as one-pole-step
 use Rattle.microwave.proofs.filter.Biquad.step.Reads as biquad-step
 use Rattle.microwave.proofs.waveguide.guide_of.Reads as guide-of
@@ -44,8 +43,8 @@ numbers_determined = (by_definition, λ N sized. by_definition)
 pub plain_determined : Answer clip-limit.Post × Answer shaped.Post
 plain_determined = (by_definition, by_definition)
 
-pub oscillator_determined : Answer driven.Post × Answer wave.Post × Answer d-phase.Post × Answer enter.Post × Answer oscillator-step.Post
-oscillator_determined = (by_definition, by_definition, by_definition, by_definition, by_definition)
+pub oscillator_determined : Answer wave.Post × Answer d-phase.Post × Answer enter.Post × Answer oscillator-step.Post
+oscillator_determined = (by_definition, by_definition, by_definition, by_definition)
 
 pub filter_determined : Answer asks.Post × Answer numbers.Post × Answer with-numbers.Post × Answer coefficients.Post × Answer one-pole-step.Post × Answer biquad-step.Post
 filter_determined = (as_follows (λ κs a r s p. sym (as_asked r) ∙ ap asked p), by_definition, by_definition, by_definition, by_definition, by_definition)

@@ -1,15 +1,14 @@
 -- The edges of an oscillator that the requirements remark on, as theorems of its definition, over a window of any length. Assumes nothing.
-use Rattle.std.proofs.Common.{◌≡◌, ℕ, ◌<◌, true, T, List, [], ◌∷◌, refl, ap, ◌∙◌}
+use Rattle.std.proofs.Common.{◌≡◌, Some, None, ℕ, ◌<◌, true, T, List, [], ◌∷◌, refl, ap, ◌∙◌}
 use mathlib.Core.List.{foldl}
 use lib.Ieee.{Float, nan, binary64, of_bits, neg, add, mul, rem, round, lt, le, fits}
 use Rattle.numbers.specs.Constants.{zero64, one64}
 use Rattle.numbers.specs.Small.{rem_euclid_of}
 use Rattle.numbers.specs.HalfTurns.{HalfTurns}
 use Rattle.numbers.proofs.HalfTurns.{at_half_turns, at_minus_zero}
-use Rattle.microwave.specs.Oscillator.{wave_of, phase_saved, bent_of, oscillator_next}
+use Rattle.microwave.specs.Oscillator.{Driven, wave_of, phase_saved, bent_of, oscillator_next}
 use Rattle.microwave.specs.declared.oscillator.OscillatorType.TheVariants.{Sin, Sin3, Square}
-use Rattle.microwave.specs.declared.oscillator.Driven.{Driven}
-use Rattle.microwave.specs.declared.oscillator.Driven.TheVariants.{Plain, ByPhase, ByFrequency}
+use Rattle.microwave.specs.declared.oscillator.Modulation.TheVariants.{ByPhase, ByFrequency}
 use Rattle.microwave.specs.declared.oscillator.Phases.{Phases}
 use Rattle.microwave.specs.declared.oscillator.Oscillator.{Oscillator}
 
@@ -36,9 +35,9 @@ minus_zero = (at_minus_zero, rw at_minus_zero (unfold mul neg of_bits round in r
 -- "A NaN phase stays."
 bent_nan : (d : Driven) (bend : Float) → bent_of d nan bend ≡ nan
 unfolding add
-bent_nan Plain bend = refl
-bent_nan ByPhase bend = refl
-bent_nan ByFrequency bend = refl
+bent_nan None bend = refl
+bent_nan (Some ByPhase) bend = refl
+bent_nan (Some ByFrequency) bend = refl
 
 next_nan : (o : Oscillator) (saved s : Float) → oscillator_next o (record { phase = nan; saved = saved }) s ≡ record { phase = nan; saved = saved }
 unfolding oscillator_next add rem_euclid_of rem lt

@@ -13,10 +13,6 @@ use Rattle.microwave.specs.OnePole.{low_pass_alpha, high_pass_alpha}
 use Rattle.microwave.specs.Parameter.{required}
 use Rattle.microwave.specs.declared.parameter.Parameter.{Parameter}
 use Rattle.microwave.specs.declared.parameter.Ask.{Ask}
-use Rattle.microwave.specs.declared.parameter.Asks.{Asks}
-use Rattle.microwave.specs.declared.parameter.Asks.TheVariants.{Two}
-use Rattle.microwave.specs.declared.filter.FilterType.{FilterType}
-use Rattle.microwave.specs.declared.filter.FilterType.TheVariants as T
 use Rattle.microwave.specs.declared.filter.Filter.{Filter}
 use Rattle.microwave.specs.declared.filter.Filter.TheVariants.{LowPass, LowPass2, HighPass, HighPass2, BandPass, Notch, AllPass}
 use Rattle.microwave.specs.declared.filter.OnePole.TheVariants as P
@@ -27,28 +23,29 @@ use Rattle.microwave.specs.declared.filter.FilterMachine.{FilterMachine}
 use Rattle.microwave.specs.declared.filter.FilterMachine.TheVariants as M
 open f64_arithmetic use {◌⊗◌}
 
--- "Each filter kind carries its own parameters", all of them required. A one_pole_family has no quality.
-abbrev pub biquad_asks : Parameter → Parameter → Asks
-biquad_asks frequency quality = Two (required frequency) (required quality)
+-- a filter of a patch
+abbrev pub FilterType : Type 0
+FilterType = Filter Parameter
 
+-- "Each filter kind carries its own parameters", all of them required. A one_pole_family has no quality.
 abbrev pub filter_asks : FilterType → List Ask
-filter_asks (T.LowPass cutoff) = required cutoff ∷ []
-filter_asks (T.LowPass2 resonance quality) = required resonance ∷ required quality ∷ []
-filter_asks (T.HighPass cutoff) = required cutoff ∷ []
-filter_asks (T.HighPass2 resonance quality) = required resonance ∷ required quality ∷ []
-filter_asks (T.BandPass center quality) = required center ∷ required quality ∷ []
-filter_asks (T.Notch center quality) = required center ∷ required quality ∷ []
-filter_asks (T.AllPass corner quality) = required corner ∷ required quality ∷ []
+filter_asks (LowPass cutoff) = required cutoff ∷ []
+filter_asks (LowPass2 resonance quality) = required resonance ∷ required quality ∷ []
+filter_asks (HighPass cutoff) = required cutoff ∷ []
+filter_asks (HighPass2 resonance quality) = required resonance ∷ required quality ∷ []
+filter_asks (BandPass center quality) = required center ∷ required quality ∷ []
+filter_asks (Notch center quality) = required center ∷ required quality ∷ []
+filter_asks (AllPass corner quality) = required corner ∷ required quality ∷ []
 
 -- a kind with a window's numbers in its parameters' place
-abbrev pub with_numbers : FilterType → Float → Float → Filter
-with_numbers (T.LowPass cutoff) frequency quality = LowPass frequency
-with_numbers (T.LowPass2 resonance q) frequency quality = LowPass2 frequency quality
-with_numbers (T.HighPass cutoff) frequency quality = HighPass frequency
-with_numbers (T.HighPass2 resonance q) frequency quality = HighPass2 frequency quality
-with_numbers (T.BandPass center q) frequency quality = BandPass frequency quality
-with_numbers (T.Notch center q) frequency quality = Notch frequency quality
-with_numbers (T.AllPass corner q) frequency quality = AllPass frequency quality
+abbrev pub with_numbers : FilterType → Float → Float → Filter Float
+with_numbers (LowPass cutoff) frequency quality = LowPass frequency
+with_numbers (LowPass2 resonance q) frequency quality = LowPass2 frequency quality
+with_numbers (HighPass cutoff) frequency quality = HighPass frequency
+with_numbers (HighPass2 resonance q) frequency quality = HighPass2 frequency quality
+with_numbers (BandPass center q) frequency quality = BandPass frequency quality
+with_numbers (Notch center q) frequency quality = Notch frequency quality
+with_numbers (AllPass corner q) frequency quality = AllPass frequency quality
 
 -- ---- a window's machine
 
@@ -82,7 +79,7 @@ abbrev pub biquad_at : B.Kind → Float → Float → Float → FilterMachine
 biquad_at kind frequency quality w = M.Biquad (coefficients_at kind (tuned_to frequency quality w (highest kind)))
 
 -- what a window of samples w seconds wide steps by
-unfoldable pub machine_of : Filter → Float → FilterMachine
+unfoldable pub machine_of : Filter Float → Float → FilterMachine
 machine_of (LowPass cutoff) w = M.OnePole (P.LowPass (low_pass_alpha cutoff w))
 machine_of (LowPass2 resonance quality) w = biquad_at B.LowPass2 resonance quality w
 machine_of (HighPass cutoff) w = M.OnePole (P.HighPass (high_pass_alpha cutoff w))

@@ -1,6 +1,6 @@
 -- Oscillators: what a window works out once, the waves of oscillator.rs, and one sample: what it answers, and what it leaves of the memory.
 -- Rests on the small functions of f64 and the sine of turns. Assumes nothing.
-use Rattle.std.specs.Prelude.{ℕ, cond, pos, from_bits, Float}
+use Rattle.std.specs.Prelude.{ℕ, cond, Option, Some, None, pos, from_bits, Float}
 use Rattle.std.specs.Float.{binary64}
 use Rattle.std.specs.Float.Ieee.{neg, lt, of_int}
 use Rattle.numbers.specs.Constants.{one64, two64, half64, quarter64, three_quarters64}
@@ -12,8 +12,7 @@ use Rattle.microwave.specs.Arithmetic.{f64_arithmetic}
 use Rattle.microwave.specs.declared.oscillator.OscillatorType.{OscillatorType}
 use Rattle.microwave.specs.declared.oscillator.OscillatorType.TheVariants.{Sin, Sin3, Triangle, Square, Sawtooth}
 use Rattle.microwave.specs.declared.oscillator.Modulation.{Modulation}
-use Rattle.microwave.specs.declared.oscillator.Driven.{Driven}
-use Rattle.microwave.specs.declared.oscillator.Driven.TheVariants.{Plain, ByPhase, ByFrequency}
+use Rattle.microwave.specs.declared.oscillator.Modulation.TheVariants.{ByPhase, ByFrequency}
 use Rattle.microwave.specs.declared.oscillator.Phases.{Phases}
 use Rattle.microwave.specs.declared.oscillator.Oscillator.{Oscillator}
 open f64_arithmetic use {◌⊕◌, ◌⊖◌, ◌⊗◌, ◌⊘◌}
@@ -30,22 +29,21 @@ phase_saved p phase = record { phase = p.phase; saved = phase }
 
 -- ---- one sample
 
--- how a modulated oscillator runs
-abbrev pub driven_by : Modulation → Driven
-driven_by Modulation.ByPhase = ByPhase
-driven_by Modulation.ByFrequency = ByFrequency
+-- how an oscillator takes its input: none, where nothing drives it
+abbrev pub Driven : Type 0
+Driven = Option Modulation
 
 -- "ByPhase reads the wave at rem_euclid(phase + s)", the others at the phase
 abbrev pub place_of : Driven → Float → Float → Float
-place_of Plain phase s = phase
-place_of ByPhase phase s = rem_euclid_of (phase ⊕ s)
-place_of ByFrequency phase s = phase
+place_of None phase s = phase
+place_of (Some ByPhase) phase s = rem_euclid_of (phase ⊕ s)
+place_of (Some ByFrequency) phase s = phase
 
 -- "ByFrequency steps by (phase + dp) + s*w", the others by phase + dp
 abbrev pub bent_of : Driven → Float → Float → Float
-bent_of Plain moved bend = moved
-bent_of ByPhase moved bend = moved
-bent_of ByFrequency moved bend = moved ⊕ bend
+bent_of None moved bend = moved
+bent_of (Some ByPhase) moved bend = moved
+bent_of (Some ByFrequency) moved bend = moved ⊕ bend
 
 abbrev four64 : Float
 four64 = from_bits binary64 0x4010_0000_0000_0000

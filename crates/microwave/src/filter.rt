@@ -6,7 +6,7 @@ ghost use Rattle.microwave.specs.Parameter.{ask_list, numbers_of};
 ghost use Rattle.microwave.specs.Arithmetic.{f64_arithmetic};
 ghost use Rattle.microwave.specs.Biquads.{with_poles, LowPass2, HighPass2, BandPass, Notch, AllPass};
 ghost use Rattle.microwave.specs.OnePole.{low_pass_alpha, high_pass_alpha, one_pole_step};
-ghost use Rattle.microwave.specs.Filter.{biquad_asks, filter_asks, with_numbers, biquad_step, tuned_to, coded, coefficients_at, machine_of};
+ghost use Rattle.microwave.specs.Filter.{filter_asks, with_numbers, biquad_step, tuned_to, coded, coefficients_at, machine_of};
 
 use crate::machine::Machine;
 use crate::parameter::{Asks, Numbers, Parameter, numbers_found, required};
@@ -16,74 +16,48 @@ use util::step::Step;
 
 const TAU: f64 = 6.283185307179586;
 
-// Each kind with its own parameters.
+// Each kind with its own parameters, or with a window's numbers in their place.
 #[derive(Clone, Copy)]
-pub enum FilterType {
-    LowPass {
-        cutoff: Parameter,
-    },
-    LowPass2 {
-        resonance: Parameter,
-        quality: Parameter,
-    },
-    HighPass {
-        cutoff: Parameter,
-    },
-    HighPass2 {
-        resonance: Parameter,
-        quality: Parameter,
-    },
-    BandPass {
-        center: Parameter,
-        quality: Parameter,
-    },
-    Notch {
-        center: Parameter,
-        quality: Parameter,
-    },
-    AllPass {
-        corner: Parameter,
-        quality: Parameter,
-    },
+pub enum Filter<P> {
+    LowPass { cutoff: P },
+    LowPass2 { resonance: P, quality: P },
+    HighPass { cutoff: P },
+    HighPass2 { resonance: P, quality: P },
+    BandPass { center: P, quality: P },
+    Notch { center: P, quality: P },
+    AllPass { corner: P, quality: P },
 }
 
-// A kind with a window's numbers in its parameters' place.
-#[derive(Clone, Copy)]
-pub enum Filter {
-    LowPass { cutoff: f64 },
-    LowPass2 { resonance: f64, quality: f64 },
-    HighPass { cutoff: f64 },
-    HighPass2 { resonance: f64, quality: f64 },
-    BandPass { center: f64, quality: f64 },
-    Notch { center: f64, quality: f64 },
-    AllPass { corner: f64, quality: f64 },
-}
+// A filter of a patch.
+pub type FilterType = Filter<Parameter>;
 
-fn biquad_asks(frequency: Parameter, quality: Parameter) -> Asks
-    ensures { result ≡ biquad_asks frequency quality }
-{
-    Asks::Two(required(frequency), required(quality))
-}
-
-fn biquad_numbers(frequency: Parameter, quality: Parameter, values: &[f64], seconds: f64) -> Numbers
-    ensures { result ≡ numbers_of (ask_list (biquad_asks frequency quality)) values.now seconds }
-{
-    numbers_found([required(frequency), required(quality)], values, seconds)
-}
-
-impl FilterType {
+impl Filter<Parameter> {
     // What the kind asks for: cutoff, resonance, center or corner, and its quality. A one-pole has no quality.
     pub fn asks(self) -> Asks
         ensures { ask_list result ≡ filter_asks self }
     {
         match self {
-            FilterType::LowPass { cutoff } => Asks::One(required(cutoff)),
-            FilterType::LowPass2 { resonance, quality } => biquad_asks(resonance, quality),
-            FilterType::HighPass { cutoff } => Asks::One(required(cutoff)),
-            FilterType::HighPass2 { resonance, quality } => biquad_asks(resonance, quality),
-            FilterType::BandPass { center, quality } => biquad_asks(center, quality),
-            FilterType::Notch { center, quality } => biquad_asks(center, quality),
-            FilterType::AllPass { corner, quality } => biquad_asks(corner, quality),
+            Filter::LowPass { cutoff } | Filter::HighPass { cutoff } => Asks::One(required(cutoff)),
+            Filter::LowPass2 {
+                resonance: frequency,
+                quality,
+            }
+            | Filter::HighPass2 {
+                resonance: frequency,
+                quality,
+            }
+            | Filter::BandPass {
+                center: frequency,
+                quality,
+            }
+            | Filter::Notch {
+                center: frequency,
+                quality,
+            }
+            | Filter::AllPass {
+                corner: frequency,
+                quality,
+            } => { Asks::Two(required(frequency), required(quality)) }
         }
     }
 
@@ -92,50 +66,56 @@ impl FilterType {
         ensures { result ≡ numbers_of (filter_asks self) values.now seconds }
     {
         match self {
-            FilterType::LowPass { cutoff } => numbers_found([required(cutoff)], values, seconds),
-            FilterType::LowPass2 { resonance, quality } => {
-                biquad_numbers(resonance, quality, values, seconds)
+            Filter::LowPass { cutoff } | Filter::HighPass { cutoff } => {
+                numbers_found([required(cutoff)], values, seconds)
             }
-            FilterType::HighPass { cutoff } => numbers_found([required(cutoff)], values, seconds),
-            FilterType::HighPass2 { resonance, quality } => {
-                biquad_numbers(resonance, quality, values, seconds)
+            Filter::LowPass2 {
+                resonance: frequency,
+                quality,
             }
-            FilterType::BandPass { center, quality } => {
-                biquad_numbers(center, quality, values, seconds)
+            | Filter::HighPass2 {
+                resonance: frequency,
+                quality,
             }
-            FilterType::Notch { center, quality } => {
-                biquad_numbers(center, quality, values, seconds)
+            | Filter::BandPass {
+                center: frequency,
+                quality,
             }
-            FilterType::AllPass { corner, quality } => {
-                biquad_numbers(corner, quality, values, seconds)
+            | Filter::Notch {
+                center: frequency,
+                quality,
             }
+            | Filter::AllPass {
+                corner: frequency,
+                quality,
+            } => { numbers_found([required(frequency), required(quality)], values, seconds) }
         }
     }
 
     // The filter with the numbers that answered.
-    pub fn with_numbers(self, frequency: f64, quality: f64) -> Filter
+    pub fn with_numbers(self, frequency: f64, quality: f64) -> Filter<f64>
         ensures { result ≡ with_numbers self frequency quality }
     {
         match self {
-            FilterType::LowPass { .. } => Filter::LowPass { cutoff: frequency },
-            FilterType::LowPass2 { .. } => Filter::LowPass2 {
+            Filter::LowPass { .. } => Filter::LowPass { cutoff: frequency },
+            Filter::LowPass2 { .. } => Filter::LowPass2 {
                 resonance: frequency,
                 quality,
             },
-            FilterType::HighPass { .. } => Filter::HighPass { cutoff: frequency },
-            FilterType::HighPass2 { .. } => Filter::HighPass2 {
+            Filter::HighPass { .. } => Filter::HighPass { cutoff: frequency },
+            Filter::HighPass2 { .. } => Filter::HighPass2 {
                 resonance: frequency,
                 quality,
             },
-            FilterType::BandPass { .. } => Filter::BandPass {
+            Filter::BandPass { .. } => Filter::BandPass {
                 center: frequency,
                 quality,
             },
-            FilterType::Notch { .. } => Filter::Notch {
+            Filter::Notch { .. } => Filter::Notch {
                 center: frequency,
                 quality,
             },
-            FilterType::AllPass { .. } => Filter::AllPass {
+            Filter::AllPass { .. } => Filter::AllPass {
                 corner: frequency,
                 quality,
             },
@@ -161,6 +141,7 @@ pub struct OnePoleMemory {
 
 impl OnePoleMemory {
     // One sample. A step changes its own kind's part of the memory only.
+    #[tactic(auto, unfolding(crate::specs::OnePole::one_pole_step))]
     pub fn step(mut self, k: OnePole, input: f64) -> Step<OnePoleMemory>
         ensures { result ≡ one_pole_step k self input }
     {
@@ -235,6 +216,7 @@ pub struct Biquad {
 
 impl Biquad {
     // One sample, the same for all five kinds: the sum from left to right, then one quotient.
+    #[tactic(auto, unfolding(crate::specs::Filter::biquad_step))]
     pub fn step(mut self, k: Coefficients, x0: f64) -> Step<Biquad>
         ensures { result ≡ biquad_step k self x0 }
     {
@@ -272,6 +254,7 @@ struct Tuning {
 }
 
 // f0 is held from 0 to the highest that the Rust lets its kind have, for stability.
+#[tactic(auto, unfolding(crate::specs::Filter::tuned_to))]
 fn tuned(frequency: f64, quality: f64, w: f64, highest: f64) -> Tuning
     ensures { result ≡ tuned_to frequency quality w highest }
 {
@@ -341,8 +324,9 @@ pub enum FilterMachine {
     Biquad(Coefficients),
 }
 
-impl Filter {
+impl Filter<f64> {
     // The machine of a window whose samples are w seconds wide.
+    #[tactic(auto, unfolding(crate::specs::Filter::machine_of))]
     pub fn coefficients(self, w: f64) -> FilterMachine
         ensures { result ≡ machine_of self w }
     {

@@ -2,7 +2,7 @@
 // Rests on the small functions of f64 and the sine of turns, of `numbers`.
 ghost use Rattle.std.specs.Prelude.{◌≡◌, ⊤};
 ghost use Rattle.microwave.specs.Running.{ringless};
-ghost use Rattle.microwave.specs.Oscillator.{driven_by, wave_of, d_phase_of, phase_saved, place_of, bent_of, oscillated};
+ghost use Rattle.microwave.specs.Oscillator.{wave_of, d_phase_of, phase_saved, place_of, bent_of, oscillated};
 
 use crate::machine::Machine;
 use crate::parameter::Parameter;
@@ -19,7 +19,7 @@ pub enum OscillatorType {
     Sawtooth,
 }
 
-// How a modulated oscillator of a patch takes its input.
+// How a modulated oscillator takes its input.
 #[derive(Clone, Copy)]
 pub enum Modulation {
     ByPhase,
@@ -34,14 +34,6 @@ pub struct OscillatorSpec {
     pub phase: Parameter,
 }
 
-// How a running oscillator takes its input: Plain takes none.
-#[derive(Clone, Copy)]
-pub enum Driven {
-    Plain,
-    ByPhase,
-    ByFrequency,
-}
-
 // What an oscillator remembers: where its wave stands, and the phase parameter of its last window.
 #[repr(C)]
 #[derive(Clone, Copy)]
@@ -50,29 +42,18 @@ pub struct Phases {
     pub saved: f64,
 }
 
-// What a window fixes for all its samples.
+// What a window fixes for all its samples. An oscillator that nothing drives takes no input.
 #[derive(Clone, Copy)]
 pub struct Oscillator {
     pub oscillator_type: OscillatorType,
-    pub driven: Driven,
+    pub driven: Option<Modulation>,
     pub d_phase: f64,
     pub sample_width: f64,
 }
 
-impl Modulation {
-    // How such an oscillator runs.
-    pub fn driven(self) -> Driven
-        ensures { result ≡ driven_by self }
-    {
-        match self {
-            Modulation::ByPhase => Driven::ByPhase,
-            Modulation::ByFrequency => Driven::ByFrequency,
-        }
-    }
-}
-
 impl OscillatorType {
     // The wave at a phase in turns.
+    #[tactic(auto, unfolding(crate::specs::Oscillator::wave_of))]
     pub fn wave(self, phase: f64) -> f64
         ensures { result ≡ wave_of self phase }
     {
@@ -97,27 +78,23 @@ pub fn d_phase(frequency: f64, to_phase: f64, saved: f64, sample_width: f64, n: 
     frequency * sample_width + (to_phase - saved) / std::num::nearest_u64_to_f64(n as u64)
 }
 
-impl Driven {
-    // Where the wave is read.
-    fn place(self, phase: f64, input: f64) -> f64
-        ensures { result ≡ place_of self phase input }
-    {
-        match self {
-            Driven::Plain => phase,
-            Driven::ByPhase => rem_euclid_one(phase + input),
-            Driven::ByFrequency => phase,
-        }
+// Where the wave is read.
+fn place(driven: Option<Modulation>, phase: f64, input: f64) -> f64
+    ensures { result ≡ place_of driven phase input }
+{
+    match driven {
+        Some(Modulation::ByPhase) => rem_euclid_one(phase + input),
+        Some(Modulation::ByFrequency) | None => phase,
     }
+}
 
-    // The phase that a step leads to, by bend further where the frequency is driven.
-    fn bent(self, moved: f64, bend: f64) -> f64
-        ensures { result ≡ bent_of self moved bend }
-    {
-        match self {
-            Driven::Plain => moved,
-            Driven::ByPhase => moved,
-            Driven::ByFrequency => moved + bend,
-        }
+// The phase that a step leads to, by bend further where the frequency is driven.
+fn bent(driven: Option<Modulation>, moved: f64, bend: f64) -> f64
+    ensures { result ≡ bent_of driven moved bend }
+{
+    match driven {
+        Some(Modulation::ByFrequency) => moved + bend,
+        Some(Modulation::ByPhase) | None => moved,
     }
 }
 
@@ -131,13 +108,12 @@ impl Phases {
     }
 
     // One sample: the signal first, then the phase moves on.
+    #[tactic(auto, unfolding(crate::specs::Oscillator::oscillator_next, crate::specs::Oscillator::oscillator_out))]
     pub fn step(mut self, o: Oscillator, input: f64) -> Step<Phases>
         ensures { result ≡ oscillated o self input }
     {
-        let sample = o.oscillator_type.wave(o.driven.place(self.phase, input));
-        let moved = o
-            .driven
-            .bent(self.phase + o.d_phase, input * o.sample_width);
+        let sample = o.oscillator_type.wave(place(o.driven, self.phase, input));
+        let moved = bent(o.driven, self.phase + o.d_phase, input * o.sample_width);
         self.phase = rem_euclid_one(moved);
         Step { next: self, sample }
     }

@@ -77,6 +77,7 @@ fn delay_over(buffer_size: usize, fract_offset: f64) -> Delay
 }
 
 // What a waveguide works out for a window whose samples are w seconds wide. The ring holds the fraction to 0..1, and tells whether it had to.
+#[tactic(auto, unfolding(crate::specs::Waveguide::guide_of))]
 pub fn guide_of(
     reflectance: Reflectance,
     buffer_size: usize,
