@@ -2,17 +2,11 @@
 use Rattle.stream.proofs.Writes.{written}
 use Rattle.stream.proofs.place.Place.write.Goals as goal
 
-pub returns-in_default : goal.returns-in_default
-returns-in_default c =
-    let a = c.args in
-    let q = c.cleared-place in
-    let put = c.put in
-    rw c.refused.ensures
-    (rw c.in_default.is at (written a.self q.result a.output.now put.new.bytes a.word put.result q.ensures put.ensures))
+pub returns-in-Some : goal.returns-in-Some
+returns-in-Some c =
+    rw c.in-Some.is at (written c.args.self.now c.clear.new.self c.put.new.bytes c.args.word c.put.result c.clear.ensures c.put.ensures)
 
-pub returns : goal.returns
-returns c =
-    let a = c.args in
-    let q = c.cleared-place in
-    let put = c.put in
-    rw c.in-Next.is at (written a.self q.result a.output.now put.new.bytes a.word put.result q.ensures put.ensures)
+pub returns-in-None : goal.returns-in-None
+returns-in-None c =
+    rw c.refuse.ensures
+    (rw c.in-None.is at (written c.args.self.now c.clear.new.self c.put.new.bytes c.args.word c.put.result c.clear.ensures c.put.ensures))

@@ -1,12 +1,9 @@
 -- `stream::place::Place::write_words` meets its contract. The loop's invariant: where what is left is written from here on, all is written.
 -- Assumes nothing.
-use Prim.Native.Nat.{◌-◌}
-use lib.ListN.{take, drop}
-use Rattle.stream.specs.Place.{Gathered, gathered, Writes}
+use lib.ListN.{drop}
+use Rattle.stream.specs.Place.{Writes}
+use Rattle.stream.specs.declared.place.Place.{Place}
 use Rattle.stream.proofs.place.Place.write_words.Given as goal
 
-abbrev pub invariant-loop-k : goal.invariant-loop-k
-invariant-loop-k l = (b : Gathered) → Writes (drop l.k (take l.count l.words)) (gathered l.place l.output) b → Writes (take l.count l.words) (gathered l.initial.place l.initial.output) b
-
-abbrev pub decreases-loop-k : goal.decreases-loop-k
-decreases-loop-k l = 16 - l.k
+abbrev pub invariant-loop-word : goal.invariant-loop-word
+invariant-loop-word l = (b : Place) → Writes (drop l.word-index l.words) l.self b → Writes l.words l.initial.self b
