@@ -1,3 +1,2 @@
--- For tests: what the contracts of `operations` cite, the lengths of the slices that a case lends, and the marks as words. Assumes nothing.
-pub mod Lent
+-- For tests: what the contracts of `operations` cite, the marks as words. Assumes nothing.
 pub mod Marks

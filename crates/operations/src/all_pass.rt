@@ -1,33 +1,37 @@
 // Sort 7: the all-pass delay. Rests on `util::all_pass`, which refuses a bad ring.
-use crate::device::Device;
-use util::all_pass::{AllPassDelay, Passed};
+use crate::device::{Device, Operation, read_operation, silent, write_answer, write_ring};
+use stream::place::Place;
+use util::all_pass::AllPassDelay;
+use util::answered::Answered;
 use util::delay_line::Cursor;
-use util::reach::Reach;
+use words::number::from_word;
 
-// One operation, by its number. 1 and 3 differ in what is told of them.
-pub(crate) fn perform(device: Device, ring: &mut [f64], operation: u64, a: f64, b: f64) -> Device {
-    let position = device.position;
-    let delay = AllPassDelay {
-        cursor: Cursor { position },
-        feedback: device.factor,
-    };
-    match operation {
-        0 => {
-            return device.passed(delay.process_sample(ring, a));
+impl Device for AllPassDelay {
+    fn read(place: &mut Place, position: usize) -> AllPassDelay {
+        AllPassDelay {
+            cursor: Cursor { position },
+            feedback: from_word(place.next()),
         }
-        1 | 3 => {
-            return device.passed(delay.process_sample_fract(ring, a, b));
-        }
-        _ => {
-            return device.after(delay.mute(ring), position, 0.0, Reach::Within);
-        }
+    }
+
+    fn answer_one(&mut self, place: &mut Place, ring: &mut [f64]) {
+        let asked = read_operation(place);
+        let answered = perform(*self, ring, asked.operation);
+        *self = write_answer(place, answered, asked.tells_reach);
+    }
+
+    fn write_end(&self, place: &mut Place, ring: &[f64]) {
+        write_ring(place, self.cursor, ring);
     }
 }
 
-impl Device {
-    fn passed(self, passed: Passed) -> Device {
-        let verdict = passed.verdict;
-        let reach = passed.reach;
-        self.after(verdict, passed.delay.cursor.position, passed.sample, reach)
+fn perform(delay: AllPassDelay, ring: &mut [f64], operation: Operation) -> Answered<AllPassDelay> {
+    match operation {
+        Operation::ProcessSample(input) => delay.process_sample(ring, input),
+        Operation::ProcessSampleFract {
+            fract_offset,
+            input,
+        } => delay.process_sample_fract(ring, fract_offset, input),
+        Operation::Mute => silent(delay.mute(ring), delay),
     }
 }

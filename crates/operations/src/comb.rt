@@ -1,85 +1,79 @@
 // Sort 6: the comb, with each response and each limit. Rests on `util::comb_filter`, which refuses a bad ring.
-use crate::device::Device;
-use util::comb_filter::{CombFilter, Combed, Muted};
+use crate::device::{
+    Device, Operation, read_low_pass, read_operation, silent, write_answer, write_ring,
+};
+use stream::place::Place;
+use util::answered::Answered;
+use util::comb_filter::CombFilter;
 use util::delay_line::Cursor;
 use util::interaction::{AnyInteraction, LowPassGain};
 use util::low_pass::OnePoleLowPass;
-use util::reach::Reach;
 use util::soft_clip::SoftClip;
+use words::number::{from_word, to_word};
 
-// One operation, by its number. 1 and 3 differ in what is told of them.
-pub(crate) fn perform(device: Device, ring: &mut [f64], operation: u64, a: f64, b: f64) -> Device {
-    let filter = device.comb();
-    match operation {
-        0 => {
-            return device.combed(filter.process_sample(ring, a));
-        }
-        1 | 3 => {
-            return device.combed(filter.process_sample_fract(ring, a, b));
-        }
-        _ => {
-            return device.combed(silenced(filter.mute(ring)));
-        }
-    }
-}
-
-fn silenced(muted: Muted) -> Combed {
-    let verdict = muted.verdict;
-    let comb = muted.comb;
-    Combed {
-        verdict,
-        comb,
-        sample: 0.0,
-        reach: Reach::Within,
-    }
-}
-
-impl Device {
-    fn comb(self) -> CombFilter {
-        let cursor = Cursor {
-            position: self.position,
-        };
+impl Device for CombFilter {
+    fn read(place: &mut Place, position: usize) -> CombFilter {
         CombFilter {
-            cursor,
-            response: self.response(),
-            limit: self.limit(),
+            cursor: Cursor { position },
+            response: read_response(place),
+            limit: read_limit(place),
         }
     }
 
-    fn response(self) -> AnyInteraction {
-        if self.response == 0 {
-            return AnyInteraction::Gain(self.factor);
-        }
-        let first = OnePoleLowPass {
-            damping: self.damping,
-            state: self.state,
-        };
-        AnyInteraction::LowPassGain(LowPassGain {
-            first,
-            second: self.factor,
-        })
+    fn answer_one(&mut self, place: &mut Place, ring: &mut [f64]) {
+        let asked = read_operation(place);
+        let answered = perform(*self, ring, asked.operation);
+        *self = write_answer(place, answered, asked.tells_reach);
     }
 
-    fn limit(self) -> AnyInteraction {
-        if self.limit == 0 {
-            return AnyInteraction::Gain(self.level);
+    // With the low-pass state, where the response has one.
+    fn write_end(&self, place: &mut Place, ring: &[f64]) {
+        write_ring(place, self.cursor, ring);
+        if let AnyInteraction::LowPassGain(chain) = self.response {
+            place.write(to_word(chain.first.state));
         }
-        AnyInteraction::SoftClip(SoftClip {
-            linear_until: self.level,
-        })
     }
+}
 
-    // After an operation; with the low-pass state, where the response has one.
-    fn combed(self, combed: Combed) -> Device {
-        let verdict = combed.verdict;
-        let filter = combed.comb;
-        let reach = combed.reach;
-        let mut device = self.after(verdict, filter.cursor.position, combed.sample, reach);
-        let response = filter.response;
-        let AnyInteraction::LowPassGain(chain) = response else {
-            return device;
-        };
-        device.state = chain.first.state;
-        device
+// 0 is a gain, 1 a low-pass that a gain follows. Any other has no meaning: the case is refused, and the low-pass remembers nothing.
+fn read_response(place: &mut Place) -> AnyInteraction {
+    let first = match place.next() {
+        0 => return AnyInteraction::Gain(from_word(place.next())),
+        1 => read_low_pass(place),
+        _ => {
+            place.refuse();
+            OnePoleLowPass {
+                damping: 0.0,
+                state: 0.0,
+            }
+        }
+    };
+    let second = from_word(place.next());
+    AnyInteraction::LowPassGain(LowPassGain { first, second })
+}
+
+// 0 is a gain, 1 a soft clip.
+fn read_limit(place: &mut Place) -> AnyInteraction {
+    let limit = place.next_up_to(1);
+    let level = from_word(place.next());
+    if limit == 0 {
+        return AnyInteraction::Gain(level);
+    }
+    AnyInteraction::SoftClip(SoftClip {
+        linear_until: level,
+    })
+}
+
+fn perform(filter: CombFilter, ring: &mut [f64], operation: Operation) -> Answered<CombFilter> {
+    match operation {
+        Operation::ProcessSample(input) => filter.process_sample(ring, input),
+        Operation::ProcessSampleFract {
+            fract_offset,
+            input,
+        } => filter.process_sample_fract(ring, fract_offset, input),
+        Operation::Mute => match filter.mute(ring) {
+            Ok(next) => silent(Ok(()), next),
+            Err(refusal) => silent(Err(refusal), filter),
+        },
     }
 }

@@ -13,6 +13,5 @@ mod operation;
 pub mod pools;
 mod request;
 mod ring;
-mod shape;
 pub mod single;
 mod soft_clip;

@@ -1,31 +1,57 @@
 // Sort 5: the one-pole low-pass by itself. Rests on `util::low_pass`.
-use crate::device::Device;
-use util::low_pass::{Filtered, OnePoleLowPass};
+use crate::device::{Device, read_low_pass};
+use stream::place::Place;
+use util::interaction::Interaction;
+use util::low_pass::OnePoleLowPass;
+use words::number::{from_word, to_word};
 
-// One operation, by its number.
-pub(crate) fn perform(device: Device, operation: u64, a: f64, b: f64) -> Device {
-    let filter = OnePoleLowPass {
-        damping: device.damping,
-        state: device.state,
-    };
-    match operation {
-        0 => device.filtered(filter.process_sample(a)),
-        1 => device.filtering(filter, filter.delay_samples()),
-        2 => device.filtering(filter.set_cutoff(a, b), 0.0),
-        _ => device.filtering(filter.mute(), 0.0),
+#[derive(Clone, Copy)]
+enum Operation {
+    ProcessSample(f64),
+    DelaySamples,
+    SetCutoff { cutoff: f64, rate: f64 },
+    Mute,
+}
+
+impl Device for OnePoleLowPass {
+    fn read(place: &mut Place, _position: usize) -> OnePoleLowPass {
+        read_low_pass(place)
+    }
+
+    // An operation by its number, with its arguments. One that has no meaning is refused, and mutes as 3 does.
+    fn answer_one(&mut self, place: &mut Place, _ring: &mut [f64]) {
+        let name = place.next();
+        let operation = match name {
+            0 => Operation::ProcessSample(from_word(place.next())),
+            1 => Operation::DelaySamples,
+            2 => Operation::SetCutoff {
+                cutoff: from_word(place.next()),
+                rate: from_word(place.next()),
+            },
+            _ => Operation::Mute,
+        };
+        place.refuse_if(name > 3);
+        let answer = perform(self, operation);
+        place.write(to_word(answer));
+    }
+
+    fn write_end(&self, place: &mut Place, _ring: &[f64]) {
+        place.write(to_word(self.damping));
+        place.write(to_word(self.state));
     }
 }
 
-impl Device {
-    fn filtered(self, filtered: Filtered) -> Device {
-        let filter = filtered.filter;
-        self.filtering(filter, filtered.sample)
+// The number that an operation answers, 0.0 where it has none.
+fn perform(filter: &mut OnePoleLowPass, operation: Operation) -> f64 {
+    match operation {
+        Operation::ProcessSample(input) => {
+            let filtered = filter.process_sample(input);
+            *filter = filtered.next;
+            return filtered.sample;
+        }
+        Operation::DelaySamples => return filter.delay_samples(),
+        Operation::SetCutoff { cutoff, rate } => *filter = filter.set_cutoff(cutoff, rate),
+        Operation::Mute => *filter = filter.mute(),
     }
-
-    fn filtering(mut self, filter: OnePoleLowPass, number: f64) -> Device {
-        self.damping = filter.damping;
-        self.state = filter.state;
-        self.sample = number;
-        self
-    }
+    0.0
 }

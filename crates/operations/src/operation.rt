@@ -1,193 +1,101 @@
 // One operation of sorts 8 and 9 on pools without a patch: what it does, and what is told of it. Rests on `magnetron` for each operation, and
 // on `request` for what is asked.
-ghost use Rattle.std.specs.Prelude.{length};
-ghost use Rattle.operations.specs.Lent.{Within};
+use crate::device::write_outcome;
+use crate::pools::write_marks;
+use crate::request::{Content, Request, Sort, Write};
+use answers::refusal::{Verdict, activity_of};
+use magnetron::buffer::BufferIndex;
+use magnetron::lent::{Lent, LentMut};
+use magnetron::write::Wrote;
+use stream::place::Place;
 
-use crate::pools::{Lengths, Samples, Zeros, write_marks};
-use crate::request::{PREPARE, READ, Request, WRITE_VALUES};
-use answers::activity::{StageActivity, rank};
-use answers::answer::Answer;
-use answers::verdict::{Verdict, done};
-use magnetron::buffer::buffer_of;
-use magnetron::pool::Pools;
-use magnetron::prepare::{Prepared, prepare};
-use magnetron::read::{check_read, read};
-use magnetron::write::{Wrote, read_0_write_1, read_1_write_1, read_2_write_1};
-use stream::place::{Buffer, Place};
+// At most as many values are lent to a write.
+const MOST_VALUES: usize = 8192;
 
-// One operation, on the parts that are lent.
-pub(crate) fn perform(
-    request: Request,
-    pools: Pools,
-    lengths: Lengths,
-    internal: &mut [f64],
-    external: &mut [f64],
-    zeros: &[f64],
-    values: &[f64],
-) -> Wrote
-    requires { Within lengths (length internal.old) (length external.old) (length zeros.now) }
-{
-    let inside = lengths.internal;
-    let outside = lengths.external;
-    let zero = lengths.zeros;
-    if writes(request.operation) {
-        return write(
-            request,
-            pools,
-            &mut internal[0..inside],
-            &mut external[0..outside],
-            &zeros[0..zero],
-            values,
-        );
-    }
-    look(
-        request,
-        pools,
-        &internal[0..inside],
-        &external[0..outside],
-        &zeros[0..zero],
-    )
-}
-
-// Whether an operation writes samples.
-fn writes(operation: u64) -> bool {
-    if operation < PREPARE {
-        return operation != READ;
-    }
-    false
-}
-
-// The operations that write samples.
-fn write(
-    request: Request,
-    pools: Pools,
-    internal: &mut [f64],
-    external: &mut [f64],
-    zeros: &[f64],
-    values: &[f64],
-) -> Wrote {
-    let n = request.n;
-    let output = buffer_of(request.buffer);
-    let level = request.level;
-    let first = buffer_of(request.first);
-    let second = buffer_of(request.second);
-    let operation = request.operation;
-    match operation {
-        WRITE_VALUES => {
-            let lent = part(values, request.count);
-            return read_0_write_1(pools, internal, external, zeros, output, level, n, lent);
+// One operation: what it asks for, what it does, and its answer.
+pub(crate) fn answer_one(
+    place: &mut Place,
+    sort: Sort,
+    lent: &mut LentMut<'_>,
+    values: &mut [f64],
+) {
+    match Request::read(place, sort) {
+        Request::Read { window, buffer } => {
+            lent.window = window;
+            answer_read(place, to_read(lent), buffer);
         }
-        2 => {
-            return read_1_write_1(pools, internal, external, zeros, first, output, level, n);
+        Request::Write(write) => {
+            lent.window = write.window;
+            read_values(place, write.content, values);
+            answer_write(place, lent, write, values);
         }
-        _ => {
-            return read_2_write_1(
-                pools, internal, external, zeros, first, second, output, level, n,
-            );
+        Request::Prepare { window } => {
+            lent.window = window;
+            let prepared = to_read(lent).prepare();
+            lent.pools = prepared.pools;
+            write_flags(place, lent, prepared.verdict);
+        }
+        Request::SetReset => {
+            lent.pools = lent.pools.set_reset();
+            write_flags(place, lent, Ok(()));
         }
     }
 }
 
-// The others: a read, which is only checked here, prepare, and set_reset.
-fn look(
-    request: Request,
-    pools: Pools,
-    internal: &[f64],
-    external: &[f64],
-    zeros: &[f64],
-) -> Wrote {
-    let n = request.n;
-    let operation = request.operation;
-    match operation {
-        READ => {
-            let buffer = buffer_of(request.buffer);
-            return unwritten(
-                check_read(pools, internal, external, zeros, buffer, n),
-                pools,
-            );
-        }
-        PREPARE => {
-            return prepared(prepare(pools, internal, external, zeros, n));
-        }
-        _ => {
-            return unwritten(done(), pools.set_reset());
-        }
+// What is lent, to read.
+fn to_read<'a>(lent: &'a LentMut<'_>) -> Lent<'a> {
+    Lent {
+        internal: &*lent.internal,
+        external: &*lent.external,
+        zeros: lent.zeros,
+        pools: lent.pools,
+        window: lent.window,
     }
 }
 
-fn prepared(prepared: Prepared) -> Wrote {
-    let verdict = prepared.verdict;
-    let pools = prepared.pools;
-    unwritten(verdict, pools)
+// The outcome, and the part that is handed back: its length and its samples.
+fn answer_read(place: &mut Place, lent: Lent<'_>, buffer: BufferIndex) {
+    write_outcome(place, lent.check_read(buffer));
+    let samples = lent.read(buffer);
+    place.write(samples.len() as u64);
+    place.write_samples(samples);
 }
 
-fn unwritten(verdict: Verdict, pools: Pools) -> Wrote {
-    let answer = Answer {
-        number: verdict.number,
-        stage: verdict.stage,
-        activity: StageActivity::Exhausted,
+// The values that a write is lent.
+fn read_values(place: &mut Place, content: Content, values: &mut [f64]) {
+    let Content::Values(count) = content else {
+        return;
     };
-    Wrote { answer, pools }
+    if MOST_VALUES < count {
+        return place.refuse();
+    }
+    place.read_first(values, count);
 }
 
-// Outcome, and the part that a read hands back, or a write's activity, or the reset flag and the marks.
-pub(crate) fn write_step<'a>(
-    place: Place,
-    request: Request,
-    wrote: Wrote,
-    lengths: Lengths,
-    output: &mut Buffer,
-    internal: &'a Samples,
-    external: &'a Samples,
-    zeros: &'a Zeros,
-) -> Place {
-    let answer = wrote.answer;
-    let pools = wrote.pools;
-    let told = place
-        .write(output, answer.number as u64)
-        .write(output, answer.stage as u64);
-    let operation = request.operation;
-    if operation == READ {
-        return write_part(
-            told, request, pools, lengths, output, internal, external, zeros,
-        );
-    }
-    if operation < PREPARE {
-        let active = answer.activity;
-        return told.write(output, rank(active) as u64);
-    }
-    write_marks(told.write_flag(output, pools.reset), pools, output)
+// The outcome and the activity.
+fn answer_write(place: &mut Place, lent: &mut LentMut<'_>, write: Write, values: &[f64]) {
+    let wrote = perform_write(lent, write, values);
+    lent.pools = wrote.pools;
+    write_outcome(place, wrote.answer);
+    place.write(u8::from(activity_of(wrote.answer)) as u64);
 }
 
-// The part that a read hands back: its length and its samples.
-fn write_part<'a>(
-    place: Place,
-    request: Request,
-    pools: Pools,
-    lengths: Lengths,
-    output: &mut Buffer,
-    internal: &'a [f64],
-    external: &'a [f64],
-    zeros: &'a [f64],
-) -> Place {
-    let buffer = buffer_of(request.buffer);
-    let samples = read(
-        pools,
-        part(internal, lengths.internal),
-        part(external, lengths.external),
-        part(zeros, lengths.zeros),
-        buffer,
-        request.n,
-    );
-    place
-        .write(output, samples.len() as u64)
-        .write_samples(output, samples)
+// Where there are not as many values as were asked for, none are lent.
+fn perform_write(lent: &mut LentMut<'_>, write: Write, values: &[f64]) -> Wrote {
+    let output = write.output;
+    let level = write.level;
+    match write.content {
+        Content::Values(count) => {
+            lent.read_0_write_1(output, level, values.get(..count).unwrap_or(&[]))
+        }
+        Content::One(a) => lent.read_1_write_1(a, output, level),
+        Content::Two(a, b) => lent.read_2_write_1(a, b, output, level),
+    }
 }
 
-// The first samples; none where there are not so many.
-fn part(samples: &[f64], count: usize) -> &[f64] {
-    if samples.len() < count {
-        return &samples[0..0];
-    }
-    &samples[0..count]
+// The outcome, the reset flag and the marks.
+fn write_flags(place: &mut Place, lent: &LentMut<'_>, verdict: Verdict) {
+    write_outcome(place, verdict);
+    place.write_flag(lent.pools.reset);
+    write_marks(place, lent.pools);
 }

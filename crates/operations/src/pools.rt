@@ -1,119 +1,134 @@
-// The pools that a case lends: their sizes, the lengths of the slices that are lent with them, and the stale marks. Any of it may be bad:
-// the engine is what refuses. Rests on `stream` for the words.
+// The pools that a case lends: their sizes, the slices that are lent with them, and the stale marks. Any of it may be bad: the engine is what
+// refuses. Rests on `stream` for the words.
 ghost use Rattle.std.specs.Prelude.{◌≡◌, map};
 ghost use Rattle.magnetron.specs.Pools.{marks_in};
-ghost use Rattle.stream.specs.Place.{gathered, flag_word, Writes};
+ghost use Rattle.stream.specs.Place.{flag_word, Writes};
 ghost use Rattle.operations.specs.Marks.{mark_words};
 
-use magnetron::buffer::Marks;
 use magnetron::pool::{Pool, Pools};
-use stream::place::{Buffer, Place};
+use stream::place::Place;
 
-// What there is for the samples of a pool, for zeros, and for the cells of rings; a case lends the first part of each.
-pub type Samples = [f64; 65536];
+// How many cells of rings there are.
+pub const CELLS: usize = 131072;
 
-pub type Zeros = [f64; 8192];
+// What there is for the samples of the pools, for zeros, for values and for the cells of rings. A case lends the first part of each.
+#[derive(Drop)]
+pub struct Memory {
+    pub internal: [f64; 65536],
+    pub external: [f64; 65536],
+    pub zeros: [f64; 8192],
+    pub values: [f64; 64],
+    pub rings: [f64; CELLS],
+}
 
-pub type Cells = [f64; 131072];
-
-// How much of each array a case lends with its pools.
+// How much of each a case lends.
 #[derive(Clone, Copy)]
 pub struct Lengths {
     pub internal: usize,
     pub external: usize,
     pub zeros: usize,
+    pub values: usize,
+    pub rings: usize,
 }
 
-// Counts and capacities as lent, the lengths of the three slices, and the place after them.
+// What a case lends.
+#[derive(Drop)]
+pub struct Lent<'a> {
+    pub internal: &'a mut [f64],
+    pub external: &'a mut [f64],
+    pub zeros: &'a mut [f64],
+    pub values: &'a mut [f64],
+    pub rings: &'a mut [f64],
+}
+
+impl Memory {
+    // The first part of each; None where one would be longer than what there is for it.
+    pub fn lend(&mut self, lengths: Lengths) -> Option<Lent<'_>> {
+        let Memory {
+            internal,
+            external,
+            zeros,
+            values,
+            rings,
+        } = self;
+        Some(Lent {
+            internal: internal.get_mut(..lengths.internal)?,
+            external: external.get_mut(..lengths.external)?,
+            zeros: zeros.get_mut(..lengths.zeros)?,
+            values: values.get_mut(..lengths.values)?,
+            rings: rings.get_mut(..lengths.rings)?,
+        })
+    }
+}
+
+impl Lent<'_> {
+    // What the slices hold that go with pools.
+    pub fn read_pools(&mut self, place: &mut Place) {
+        place.read_samples(self.internal);
+        place.read_samples(self.external);
+        place.read_samples(self.zeros);
+    }
+}
+
+// Counts and capacities as lent, and the lengths of the three slices that go with pools.
 #[derive(Clone, Copy)]
 pub struct Sizes {
-    pub place: Place,
     pub pools: Pools,
     pub lengths: Lengths,
 }
 
-// Pools with their marks, and the place after them.
-#[derive(Clone, Copy)]
-pub struct Marked {
-    pub place: Place,
-    pub pools: Pools,
-}
-
-// Nothing is stale yet.
-pub fn read_sizes(start: Place, input: &mut Buffer) -> Sizes {
-    let read = start.next_words(input, 7);
-    let place = read.place;
-    let words = read.at;
+// Nothing is stale yet. Neither values nor rings are lent yet.
+pub fn read_sizes(place: &mut Place) -> Sizes {
     Sizes {
-        place,
         pools: Pools {
-            internal: pool_of(words[0], words[1]),
-            external: pool_of(words[2], words[3]),
+            internal: read_pool(place),
+            external: read_pool(place),
             reset: false,
         },
         lengths: Lengths {
-            internal: words[4] as usize,
-            external: words[5] as usize,
-            zeros: words[6] as usize,
+            internal: place.next() as usize,
+            external: place.next() as usize,
+            zeros: place.next() as usize,
+            values: 0,
+            rings: 0,
         },
     }
 }
 
-fn pool_of(count: u64, capacity: u64) -> Pool {
+fn read_pool(place: &mut Place) -> Pool {
     Pool {
-        count: count as usize,
-        capacity: capacity as usize,
+        count: place.next() as usize,
+        capacity: place.next() as usize,
         stale: [false; 16],
     }
 }
 
 // The marks of both pools.
-pub fn read_marks(start: Place, pools: Pools, input: &mut Buffer) -> Marked {
-    let inside = start.next_words(input, 16);
-    let between = inside.place;
-    let outside = between.next_words(input, 16);
-    let place = outside.place;
-    let internal = inside.at;
-    let external = outside.at;
-    let marks = Marks {
-        internal: marks_of(internal),
-        external: marks_of(external),
-    };
-    Marked {
-        place,
-        pools: pools.with_marks(marks),
-    }
+pub fn read_marks(place: &mut Place, pools: &mut Pools) {
+    pools.internal.stale = read_pool_marks(place);
+    pools.external.stale = read_pool_marks(place);
 }
 
-fn marks_of(words: [u64; 16]) -> [bool; 16] {
-    let mut marks = [false; 16];
-    let mut k = 0;
-    while k < 16 {
-        marks[k] = words[k] != 0;
-        k += 1;
+fn read_pool_marks(place: &mut Place) -> [bool; 16] {
+    let mut stale = [false; 16];
+    for mark in stale.iter_mut() {
+        *mark = place.next() != 0;
     }
-    marks
+    stale
 }
 
 // The marks of both pools.
-pub fn write_marks(start: Place, pools: Pools, output: &mut Buffer) -> Place
-    ensures { Writes (mark_words (marks_in pools)) (gathered start output.old) (gathered result output.new) }
+pub fn write_marks(place: &mut Place, pools: Pools)
+    ensures { Writes (mark_words (marks_in pools)) place.old place.new }
 {
-    let marks = pools.marks();
-    let internal = marks.internal;
-    let external = marks.external;
-    let inside = start.write_words(output, words_of(internal), 16);
-    inside.write_words(output, words_of(external), 16)
+    write_pool_marks(place, &pools.internal.stale);
+    write_pool_marks(place, &pools.external.stale);
 }
 
-fn words_of(marks: [bool; 16]) -> [u64; 16]
-    ensures { result ≡ map flag_word marks }
+fn write_pool_marks(place: &mut Place, stale: &[bool])
+    ensures { Writes (map flag_word stale.now) place.old place.new }
 {
-    let mut words = [0u64; 16];
-    let mut k = 0;
-    while k < 16 {
-        words[k] = marks[k] as u64;
-        k += 1;
+    for mark in stale {
+        place.write_flag(*mark);
     }
-    words
 }

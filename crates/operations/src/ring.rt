@@ -1,56 +1,62 @@
 // Sort 3: the ring by itself. Rests on `util::delay_line`, which refuses a bad ring.
-ghost use Rattle.std.specs.Prelude.{◌≡◌};
-ghost use Rattle.util.specs.DelayLine.{advanced};
-
-use crate::device::Device;
-use util::delay_line::{Cursor, Moved, Tapped};
+use crate::device::{Device, silent, write_answer, write_ring};
+use stream::place::Place;
+use util::answered::Answered;
+use util::delay_line::Cursor;
 use util::lent::advance_lent;
-use util::reach::Reach;
+use words::number::from_word;
 
-// One operation, by its number. 4 and 6 differ in what is told of them.
-pub(crate) fn perform(device: Device, ring: &mut [f64], operation: u64, x: f64) -> Device {
-    let position = device.position;
-    let cursor = Cursor { position };
+#[derive(Clone, Copy)]
+enum Operation {
+    Advance,
+    AdvanceWhereLent,
+    Write(f64),
+    GetDelayed,
+    GetDelayedFract(f64),
+    Mute,
+}
+
+impl Device for Cursor {
+    // There are no settings.
+    fn read(_place: &mut Place, position: usize) -> Cursor {
+        Cursor { position }
+    }
+
+    // An operation by its number, with its argument; 6 is 4 that tells its reach. One that has no meaning is refused, and silences the ring as 5
+    // does.
+    fn answer_one(&mut self, place: &mut Place, ring: &mut [f64]) {
+        let name = place.next();
+        let operation = match name {
+            0 => Operation::Advance,
+            1 => Operation::AdvanceWhereLent,
+            2 => Operation::Write(from_word(place.next())),
+            3 => Operation::GetDelayed,
+            4 | 6 => Operation::GetDelayedFract(from_word(place.next())),
+            _ => Operation::Mute,
+        };
+        place.refuse_if(name > 6);
+        let answered = perform(*self, ring, operation);
+        *self = write_answer(place, answered, name == 6);
+    }
+
+    fn write_end(&self, place: &mut Place, ring: &[f64]) {
+        write_ring(place, *self, ring);
+    }
+}
+
+fn perform(mut cursor: Cursor, ring: &mut [f64], operation: Operation) -> Answered<Cursor> {
     match operation {
-        0 => {
-            return device.moved(cursor.advance(ring.len()));
+        Operation::Advance => match cursor.advance(ring.len()) {
+            Ok(next) => silent(Ok(()), next),
+            Err(refusal) => silent(Err(refusal), cursor),
+        },
+        Operation::AdvanceWhereLent => {
+            let verdict = advance_lent(&mut cursor, ring.len());
+            silent(verdict, cursor)
         }
-        1 => {
-            return device.moved(advance_where_lent(position, ring.len()));
-        }
-        2 => {
-            return device.after(cursor.write(ring, x), position, 0.0, Reach::Within);
-        }
-        3 => {
-            return device.tapped(cursor.get_delayed(ring));
-        }
-        4 | 6 => {
-            return device.tapped(cursor.get_delayed_fract(ring, x));
-        }
-        _ => {
-            return device.after(cursor.mute(ring), position, 0.0, Reach::Within);
-        }
-    }
-}
-
-// The cursor is lent for the advance, and is back after it.
-fn advance_where_lent(position: usize, slots: usize) -> Moved
-    ensures { result ≡ advanced (record { position = position }) slots }
-{
-    let mut cursor = Cursor { position };
-    let verdict = advance_lent(&mut cursor, slots);
-    Moved { verdict, cursor }
-}
-
-impl Device {
-    fn moved(self, moved: Moved) -> Device {
-        let verdict = moved.verdict;
-        self.after(verdict, moved.cursor.position, 0.0, Reach::Within)
-    }
-
-    fn tapped(self, tapped: Tapped) -> Device {
-        let verdict = tapped.verdict;
-        let reach = tapped.reach;
-        self.after(verdict, self.position, tapped.sample, reach)
+        Operation::Write(x) => silent(cursor.write(ring, x), cursor),
+        Operation::GetDelayed => cursor.get_delayed(ring),
+        Operation::GetDelayedFract(f) => cursor.get_delayed_fract(ring, f),
+        Operation::Mute => silent(cursor.mute(ring), cursor),
     }
 }

@@ -1,172 +1,69 @@
 // Sorts 8 and 9: single reads and writes, and prepare, on pools without a patch. A case has its pools and slices, then operation after
 // operation, each answered as it is read. Rests on `pools` for what both sorts begin with, on `request` for what an operation asks, and on
 // `operation` for what it does.
-ghost use Rattle.operations.specs.Lent.{Fit};
-
-use crate::operation::{perform, write_step};
-use crate::pools::{Cells, Lengths, Marked, Samples, Zeros, read_marks, read_sizes, write_marks};
-use crate::request::{SINGLE, read_request, read_values};
+use crate::operation::answer_one;
+use crate::pools::{CELLS, Lengths, Lent, Memory, read_marks, read_sizes, write_marks};
+pub use crate::request::Sort;
+use magnetron::lent::LentMut;
 use magnetron::pool::Pools;
-use stream::place::{Buffer, Place};
+use stream::place::Place;
 
-// A case, from the word after its sort on. Where a slice would be longer than what is lent for it, the case is refused.
-pub fn answer(
-    start: Place,
-    sort: u64,
-    input: &mut Buffer,
-    output: &mut Buffer,
-    internal: &mut Samples,
-    external: &mut Samples,
-    zeros: &mut Zeros,
-    values: &mut Cells,
-) -> Place {
-    let sizes = read_sizes(start, input);
-    let place = sizes.place;
-    let pools = sizes.pools;
-    let lengths = sizes.lengths;
-    if internal.len() < lengths.internal {
-        return place.refused();
-    }
-    if external.len() < lengths.external {
-        return place.refused();
-    }
-    if zeros.len() < lengths.zeros {
-        return place.refused();
-    }
-    answer_over(
-        Marked { place, pools },
-        sort,
-        lengths,
-        input,
-        output,
+// A case, from the word after its sort on. Where a slice would be longer than what is lent for it, the case is refused. The values of a write
+// come where the cells of rings lie, of which these sorts have none.
+pub fn answer(place: &mut Place, sort: Sort, memory: &mut Memory) {
+    let sizes = read_sizes(place);
+    let lengths = Lengths {
+        rings: CELLS,
+        ..sizes.lengths
+    };
+    let Some(mut lent) = memory.lend(lengths) else {
+        return place.refuse();
+    };
+    lent.read_pools(place);
+    let pools = read_pools(place, sort, sizes.pools);
+    let Lent {
         internal,
         external,
         zeros,
-        values,
-    )
+        rings,
+        ..
+    } = lent;
+    let mut pools_lent = LentMut {
+        internal,
+        external,
+        zeros,
+        pools,
+        window: 0,
+    };
+    answer_all(place, sort, &mut pools_lent, rings);
 }
 
-// From the contents of the slices on.
-fn answer_over(
-    start: Marked,
-    sort: u64,
-    lengths: Lengths,
-    input: &mut Buffer,
-    output: &mut Buffer,
-    internal: &mut Samples,
-    external: &mut Samples,
-    zeros: &mut Zeros,
-    values: &mut Cells,
-) -> Place
-    requires { Fit lengths }
-{
-    let pools = start.pools;
-    let lent = start.place;
-    let filled = lent
-        .read_first(input, internal, lengths.internal)
-        .read_first(input, external, lengths.external)
-        .read_first(input, zeros, lengths.zeros);
-    let marked = read_marks(filled, pools, input);
-    let set = read_reset(marked, sort, input);
-    operate(
-        set, sort, lengths, input, output, internal, external, zeros, values,
-    )
-}
-
-// Sort 9 has a reset flag.
-fn read_reset(start: Marked, sort: u64, input: &mut Buffer) -> Marked {
-    if sort == SINGLE {
-        return start;
+// The marks; sort 9 has a reset flag.
+fn read_pools(place: &mut Place, sort: Sort, sized: Pools) -> Pools {
+    let mut pools = sized;
+    read_marks(place, &mut pools);
+    if sort == Sort::Prepare {
+        pools.reset = place.next() != 0;
     }
-    let mut pools = start.pools;
-    let before = start.place;
-    let flag = before.next(input);
-    let place = flag.place;
-    pools.reset = flag.word != 0;
-    Marked { place, pools }
+    pools
 }
 
 // Each operation is answered as it is read, so their count may be any word.
-fn operate(
-    start: Marked,
-    sort: u64,
-    lengths: Lengths,
-    input: &mut Buffer,
-    output: &mut Buffer,
-    internal: &mut Samples,
-    external: &mut Samples,
-    zeros: &Zeros,
-    values: &mut Cells,
-) -> Place
-    requires { Fit lengths }
-{
-    let set = start.place;
-    let count = set.next(input);
-    let mut place = count.place;
-    let mut pools = start.pools;
-    let mut left = count.word;
-    while left > 0 {
-        if place.over {
-            return place;
+fn answer_all(place: &mut Place, sort: Sort, lent: &mut LentMut<'_>, values: &mut [f64]) {
+    for _ in 0..place.next() {
+        if place.is_over() {
+            return;
         }
-        left -= 1;
-        let after = answer_one(
-            Marked { place, pools },
-            sort,
-            lengths,
-            input,
-            output,
-            internal,
-            external,
-            zeros,
-            values,
-        );
-        place = after.place;
-        pools = after.pools;
+        answer_one(place, sort, lent, values);
     }
-    write_end(place, sort, pools, lengths, output, internal, external)
-}
-
-// One operation: what it asks for, what it does, and its answer.
-fn answer_one(
-    start: Marked,
-    sort: u64,
-    lengths: Lengths,
-    input: &mut Buffer,
-    output: &mut Buffer,
-    internal: &mut Samples,
-    external: &mut Samples,
-    zeros: &Zeros,
-    values: &mut Cells,
-) -> Marked
-    requires { Fit lengths }
-{
-    let before = start.pools;
-    let request = read_request(start.place, sort, input);
-    let asked = read_values(request, input, values);
-    let wrote = perform(request, before, lengths, internal, external, zeros, values);
-    let pools = wrote.pools;
-    let place = write_step(
-        asked, request, wrote, lengths, output, internal, external, zeros,
-    );
-    Marked { place, pools }
+    write_end(place, sort, lent);
 }
 
 // After the last operation: all samples, and in sort 8 the marks.
-fn write_end(
-    place: Place,
-    sort: u64,
-    pools: Pools,
-    lengths: Lengths,
-    output: &mut Buffer,
-    internal: &Samples,
-    external: &Samples,
-) -> Place {
-    let told = place
-        .write_first(output, internal, lengths.internal)
-        .write_first(output, external, lengths.external);
-    if sort == SINGLE {
-        return write_marks(told, pools, output);
+fn write_end(place: &mut Place, sort: Sort, lent: &LentMut<'_>) {
+    place.write_samples(lent.internal);
+    place.write_samples(lent.external);
+    if sort == Sort::Single {
+        write_marks(place, lent.pools);
     }
-    told
 }

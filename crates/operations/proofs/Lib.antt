@@ -1,0 +1,2 @@
+-- The lemmas that the proofs of functions cite. Assumes nothing.
+mod Marks

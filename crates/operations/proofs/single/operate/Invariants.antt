@@ -1,5 +1,0 @@
--- `operations::single::operate` is safe and ends: its operations are counted down. Assumes nothing.
-use Rattle.operations.proofs.single.operate.Given as goal
-
-abbrev pub decreases-loop-left : goal.decreases-loop-left
-decreases-loop-left l = l.left
