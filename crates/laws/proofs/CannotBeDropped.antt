@@ -14,7 +14,10 @@ use lib.ListN.{get_or, drop}
 use lib.Ieee.{Float, nan, of_int, round}
 use Rattle.numbers.specs.Zeros.{is_plus_zero}
 use Rattle.order.specs.Order.{Among, Once, SameOrder}
-use Rattle.answers.specs.declared.answer.Answer.{Answer}
+use Rattle.std.specs.Prelude.{Result}
+use Rattle.answers.specs.Refusal.{told_of}
+use Rattle.answers.specs.declared.activity.StageActivity.{StageActivity}
+use Rattle.answers.specs.declared.refusal.Refusal.{Refusal}
 use Rattle.engine.specs.Run.{After}
 use Rattle.laws.specs.Cases.{added, terms, Holds, All, table}
 use Rattle.laws.proofs.Listed.{listed, from}
@@ -24,7 +27,7 @@ abbrev run : List ℕ → After
 run = added terms 1
 
 abbrev Refused : List ℕ → Type 0
-Refused order = (run order).ran.answer.number ≢ 0
+Refused order = (told_of (run order).ran.answer).number ≢ 0
 
 -- `safe_orders` for this patch and these buffers, with no two stages tied
 abbrev WithoutTies : Type 0
@@ -41,9 +44,9 @@ swapped = 1 ∷ 3 ∷ 2 ∷ []
 twelve : All (drop 12 table)
 twelve = from 12 table listed
 
-accepted : (run kept).ran.answer.number ≡ 0
+accepted : (told_of (run kept).ran.answer).number ≡ 0
 unfolding All Holds table
-accepted = ap (λ (a : Answer). a.number) twelve.0.0
+accepted = ap (λ (a : Result StageActivity Refusal). (told_of a).number) twelve.0.0
 
 differ : run kept ≢ run swapped
 unfolding All Holds table is_plus_zero of_int round

@@ -9,7 +9,7 @@ use lib.Ieee.{of_bits, of_int, round, neg, add, sub, mul, lt, is_nan}
 use Rattle.numbers.specs.Small.{max_of, min_of}
 use Rattle.numbers.specs.Ceil.{ceil_of, gap_of}
 use Rattle.numbers.specs.Zeros.{is_plus_zero, all_plus_zero}
-use Rattle.answers.specs.Answer.{accepted_answer}
+use Rattle.std.specs.Prelude.{Ok}
 use Rattle.answers.specs.declared.activity.StageActivity.TheVariants.{Exhausted}
 use Rattle.magnetron.specs.Signals.{tab, state_at}
 use Rattle.magnetron.specs.Buffers.{line_of, with_line, line_at, with_line_at, heard, laid, write, stale_at, cleared}
@@ -45,6 +45,6 @@ from (suc n) (c ∷ cs) h = from n cs h.1
 
 -- Case 13 is a sentence about every input: "Empty order, checks 1 to 4 passed: 0, Exhausted.", and everything else is as it was.
 pub thirteen : (g : Given) → entry (plan_of g) g.zeros [] (world_of g) ≡ none
-    → run_of g [] ≡ after (record { answer = accepted_answer Exhausted; pools = g.pools; states = g.states; reaches = all_within }) g.internal g.external g.rings
+    → run_of g [] ≡ after (record { answer = Ok Exhausted; pools = g.pools; states = g.states; reaches = all_within }) g.internal g.external g.rings
 unfolding run_of rendered judged ended after_by reaches told_at tab
 thirteen g e = rw e

@@ -15,7 +15,8 @@ use lib.ListN.{get_or, set}
 use borrow.Author.Tests.{eqb-true}
 use Rattle.order.specs.Order.{runs}
 use Rattle.order.specs.Checks.{passed}
-use Rattle.answers.specs.declared.verdict.Verdict.{Verdict}
+use Rattle.answers.specs.Refusal.{told_of}
+use Rattle.answers.specs.declared.refusal.Refusal.{Refusal}
 use Rattle.magnetron.specs.Buffers.{same_buffer, hits, marks_of, stale_at, cleared}
 use Rattle.magnetron.specs.Pools.{marks_in, marked}
 use Rattle.magnetron.specs.Single.{Lent, lent, prepared_of}
@@ -100,7 +101,7 @@ module _ (outer : Pools) (g : Given) where
     abbrev handed : Pools
     handed = outer_pools outer run.ran.pools
 
-    went_through : run.ran.answer.number ≡ 0 → passed (judged plan g.zeros order world) ≡ true
+    went_through : (told_of run.ran.answer).number ≡ 0 → passed (judged plan g.zeros order world) ≡ true
     unfolding run_of
     went_through e = go (passed (judged plan g.zeros order world)) refl
       where
@@ -108,7 +109,7 @@ module _ (outer : Pools) (g : Given) where
         go true q = refl
         go false q = absurd (stopped plan g.zeros order world q e)
 
-    pub inner_run : run.ran.answer.number ≡ 0 → (k : ℕ) → stale_at (Internal k) (marks_in handed) ≡ (stale_at (Internal k) (marks_in outer) && not (writes plan order (External k)))
+    pub inner_run : (told_of run.ran.answer).number ≡ 0 → (k : ℕ) → stale_at (Internal k) (marks_in handed) ≡ (stale_at (Internal k) (marks_in outer) && not (writes plan order (External k)))
     unfolding run_of
     inner_run e k =
         ap (λ (l : After). stale_at (Internal k) (marks_in (outer_pools outer l.ran.pools))) (went plan g.zeros order world (went_through e))
@@ -118,11 +119,11 @@ module _ (outer : Pools) (g : Given) where
     unfolding run_of rendered
     inner_run_else = go (judged plan g.zeros order world)
       where
-        go : (o : Option Verdict)
+        go : (o : Option Refusal)
             → outer_pools outer (after_by plan world (ended plan order world o)).ran.pools
             ≡ record { internal = marked outer.internal (after_by plan world (ended plan order world o)).ran.pools.external.stale; external = outer.external; reset = outer.reset }
         go none = unfold ended after_by in refl
         go (some v) = unfold ended after_by in refl
 
-    pub inner_refused : run.ran.answer.number ≢ 0 → handed ≡ outer
-    inner_refused r = ap (λ (l : After). outer_pools outer l.ran.pools) (refused_unchanged nested order r)
+    pub inner_refused : (told_of run.ran.answer).number ≢ 0 → handed ≡ outer
+    inner_refused r = ap (λ (l : After). outer_pools outer l.ran.pools) (refused_unchanged nested order r).0

@@ -7,7 +7,7 @@ use Prim.Native.Nat.{ℕ, zero, suc}
 use lib.ListN.{get_or}
 use lib.Ieee.{Float}
 use Rattle.order.specs.Order.{runs}
-use Rattle.answers.specs.declared.verdict.Verdict.{Verdict}
+use Rattle.answers.specs.declared.refusal.Refusal.{Refusal}
 use Rattle.magnetron.specs.Signals.{state_at}
 use Rattle.microwave.specs.Filter.{machine_of, with_numbers}
 use Rattle.microwave.specs.declared.filter.FilterType.{FilterType}
@@ -127,6 +127,6 @@ module _ (g : Given) (order : List ℕ) where
   unfolding run_of rendered
   own_part k = go (judged (plan_of g) g.zeros order (world_of g))
     where
-      go : (o : Option Verdict) → AlikeBut (family k) (get_or g.states.stages k no_state) (get_or (after_by (plan_of g) (world_of g) (ended (plan_of g) order (world_of g) o)).ran.states.stages k no_state)
+      go : (o : Option Refusal) → AlikeBut (family k) (get_or g.states.stages k no_state) (get_or (after_by (plan_of g) (world_of g) (ended (plan_of g) order (world_of g) o)).ran.states.stages k no_state)
       go none = unfold ended after_by in order_part (plan_of g) k order (world_of g)
       go (some v) = unfold ended after_by in alike (family k) (get_or g.states.stages k no_state)

@@ -18,6 +18,7 @@ use Prim.Native.Nat.{ℕ, ◌<◌, ◌≤◌}
 use native.Mathlib.Omega.{arith}
 use Rattle.order.specs.Order.{Among, Once, SameOrder}
 use Rattle.order.proofs.Trace.{before_first}
+use Rattle.answers.specs.Refusal.{told_of}
 use Rattle.engine.specs.Run.{Given, plan_of, world_of, run_of}
 use Rattle.laws.specs.Tied.{tied}
 use Rattle.laws.proofs.Commute.{tied-there}
@@ -25,7 +26,7 @@ use Rattle.laws.proofs.TwoOrders.{same_after}
 
 module _ (g : Given) where
   abbrev Refused : List ℕ → Type 0
-  Refused order = (run_of g order).ran.answer.number ≢ 0
+  Refused order = (told_of (run_of g order).ran.answer).number ≢ 0
 
   pub safe_orders : (xs ys : List ℕ) → SameOrder (tied (plan_of g)) xs ys → (Refused xs × Refused ys) ⊎ (run_of g xs ≡ run_of g ys)
   unfolding run_of

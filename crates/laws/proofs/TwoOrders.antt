@@ -20,7 +20,11 @@ use Rattle.order.specs.Checks.{passed, verdict}
 use Rattle.order.proofs.Trace.{trace}
 use Rattle.order.proofs.Checks.{shuffle, passed_first, same_verdict}
 use Rattle.answers.specs.Activity.{greater_of}
-use Rattle.answers.specs.declared.verdict.Verdict.{Verdict}
+use Rattle.std.specs.Prelude.{None}
+use Rattle.answers.specs.Refusal.{told_of}
+use Rattle.answers.specs.declared.refusal.Reason.{Reason}
+use Rattle.answers.specs.declared.refusal.Refusal.{Refusal}
+use Rattle.answers.proofs.Verdicts.{numbered}
 use Rattle.answers.specs.declared.activity.StageActivity.{StageActivity}
 use Rattle.answers.specs.declared.activity.StageActivity.TheVariants.{Exhausted}
 use Rattle.answers.proofs.Tests.{and_left, and_right, or_cases}
@@ -31,10 +35,10 @@ use Rattle.magnetron.proofs.Writes.{folds_swap}
 use Rattle.magnetron.proofs.Told.{fits}
 use Rattle.magnetron.proofs.Windows.{tab_ext}
 use Rattle.engine.specs.Run.{Plan, World, outs_at, staged, louder, told_at, reaches, all_below, holds, repeats, orderly, entry, named, fault, turned, judged, ended, rendered, After, after_by}
-use Rattle.engine.specs.Inside.{returned, Admitted}
+use Rattle.engine.specs.Inside.{Admitted}
 use Rattle.engine.proofs.Entries.{entry-told}
 use Rattle.engine.proofs.Faults.{passed-named}
-use Rattle.engine.proofs.Judged.{judged-passed, passed_all}
+use Rattle.engine.proofs.Judged.{passed_all}
 use Rattle.engine.proofs.Ends.{after-done}
 use Rattle.laws.specs.Tied.{tied}
 use Rattle.laws.proofs.Commute.{untied, tied_even, staged_swap, fault_same, turn_swap}
@@ -88,7 +92,7 @@ module _ (P : Plan) (zeros : List Float) (ks : List ℕ) (w : World) where
   leaves = after_by P w (rendered P zeros ks w)
 
   abbrev Refused : Type 0
-  Refused = leaves.ran.answer.number ≢ 0
+  Refused = (told_of leaves.ran.answer).number ≢ 0
 
   pub went : passed (judged P zeros ks w) ≡ true → leaves ≡ after_by P w (ended P ks w none)
   unfolding ended
@@ -96,11 +100,11 @@ module _ (P : Plan) (zeros : List Float) (ks : List ℕ) (w : World) where
 
   pub stopped : passed (judged P zeros ks w) ≡ false → Refused
   unfolding rendered ended after_by
-  stopped e z = true≢false (sym (judged-passed P zeros ks w (go (judged P zeros ks w) e z)) ∙ e)
+  stopped = go (judged P zeros ks w)
     where
-      go : (o : Option Verdict) → passed o ≡ false → (after_by P w (ended P ks w o)).ran.answer.number ≡ 0 → (returned o).number ≡ 0
-      go none f n = absurd (true≢false f)
-      go (some v) f n = n
+      go : (o : Option Refusal) → passed o ≡ false → (told_of (after_by P w (ended P ks w o)).ran.answer).number ≢ 0
+      go none f n = true≢false f
+      go (some r) f n = numbered r.reason n
 
 -- ---- along two
 
@@ -135,16 +139,16 @@ module _ (P : Plan) (xs ys : List ℕ) (h : SameOrder (tied P) xs ys) where
   pub same_judged : (zeros : List Float) (w : World) → passed (judged P zeros xs w) ≡ passed (judged P zeros ys w)
   unfolding judged
   same_judged zeros w =
-      passed_first (named 32 (entry P zeros xs w)) (verdict (fault P) (turned P) xs (marks_of w.banks))
+      passed_first (named None (entry P zeros xs w)) (verdict (fault P) (turned P) xs (marks_of w.banks))
       ∙ go (passed (entry P zeros xs w)) refl
-      ∙ ap (λ (o : Option ℕ). passed (named 32 o) && passed (verdict (fault P) (turned P) ys (marks_of w.banks))) (same_entry zeros w)
-      ∙ sym (passed_first (named 32 (entry P zeros ys w)) (verdict (fault P) (turned P) ys (marks_of w.banks)))
+      ∙ ap (λ (o : Option Reason). passed (named None o) && passed (verdict (fault P) (turned P) ys (marks_of w.banks))) (same_entry zeros w)
+      ∙ sym (passed_first (named None (entry P zeros ys w)) (verdict (fault P) (turned P) ys (marks_of w.banks)))
     where
       go : (b : Bool) → passed (entry P zeros xs w) ≡ b
-          → (passed (named 32 (entry P zeros xs w)) && passed (verdict (fault P) (turned P) xs (marks_of w.banks)))
-          ≡ (passed (named 32 (entry P zeros xs w)) && passed (verdict (fault P) (turned P) ys (marks_of w.banks)))
-      go true e = ap (λ (b : Bool). passed (named 32 (entry P zeros xs w)) && b) (same_along (stages-there P xs (entry-told P zeros xs w e).below) (marks_of w.banks))
-      go false e = rw (passed-named 32 (entry P zeros xs w), e)
+          → (passed (named None (entry P zeros xs w)) && passed (verdict (fault P) (turned P) xs (marks_of w.banks)))
+          ≡ (passed (named None (entry P zeros xs w)) && passed (verdict (fault P) (turned P) ys (marks_of w.banks)))
+      go true e = ap (λ (b : Bool). passed (named None (entry P zeros xs w)) && b) (same_along (stages-there P xs (entry-told P zeros xs w e).below) (marks_of w.banks))
+      go false e = rw (passed-named None (entry P zeros xs w), e)
 
   same_activity : runs (louder P) xs Exhausted ≡ runs (louder P) ys Exhausted
   unfolding louder

@@ -6,8 +6,11 @@ use Rattle.std.specs.Float.{binary64}
 use Rattle.std.specs.Float.Ieee.{of_bits, of_int, neg}
 use Rattle.numbers.specs.Constants.{zero64, one64, half64, quarter64, three_quarters64}
 use Rattle.answers.specs.declared.activity.StageActivity.TheVariants.{Exhausted, Internal}
-use Rattle.answers.specs.Answer.{refused_answer, accepted_answer}
-use Rattle.answers.specs.declared.answer.Answer.{Answer}
+use Rattle.std.specs.Prelude.{Result, Ok, Err, Some}
+use Rattle.answers.specs.declared.activity.StageActivity.{StageActivity}
+use Rattle.answers.specs.declared.refusal.Reason.{Reason}
+use Rattle.answers.specs.declared.refusal.Reason.TheVariants.{Clash}
+use Rattle.answers.specs.declared.refusal.Refusal.{Refusal}
 use Rattle.magnetron.specs.Pools.{fresh_pool}
 use Rattle.magnetron.specs.declared.buffer.BufferIndex.TheVariants as index
 use Rattle.magnetron.specs.declared.pool.Pools.{Pools}
@@ -55,7 +58,7 @@ added buffers n order = run_of (given adder (pools_of buffers) new_states n one6
 
 pub data Case : Type 0 where
   -- buffers, window and order of such a run; its answer, and what the buffers hold then
-  a_run : List Buffer → ℕ → List ℕ → Answer → List Float → Case
+  a_run : List Buffer → ℕ → List ℕ → Result StageActivity Refusal → List Float → Case
   -- a ring, an all-pass or a comb by itself
   a_ring : rings.Case → Case
 
@@ -72,8 +75,9 @@ All (c ∷ cs) = Holds c × All cs
 
 -- ---- the words of the table
 
-abbrev refused : ℕ → ℕ → Answer
-refused number stage = refused_answer (record { number = number; stage = stage })
+-- "7" is the number of `Clash`, which `number_of` of answers gives
+abbrev refused : Reason → ℕ → Result StageActivity Refusal
+refused reason stage = Err (record { reason = reason; stage = Some stage })
 
 abbrev pub whole : ℕ → Float
 whole n = of_int binary64 (pos n)
@@ -104,14 +108,14 @@ impulse n = whole 1 ∷ replicate n (whole 0)
 unfoldable pub table : List Case
 table =
     -- 1: "Stale buffer, store -0.0: -0.0 stays."
-    a_run (stale (whole 7) ∷ holding minus_zero ∷ []) 1 (1 ∷ []) (accepted_answer Internal) (minus_zero ∷ minus_zero ∷ [])
+    a_run (stale (whole 7) ∷ holding minus_zero ∷ []) 1 (1 ∷ []) (Ok Internal) (minus_zero ∷ minus_zero ∷ [])
     -- 2: "Not stale, 0.0 there, add -0.0: 0.0."
-    ∷ a_run (holding (whole 0) ∷ holding minus_zero ∷ []) 1 (1 ∷ []) (accepted_answer Internal) (whole 0 ∷ minus_zero ∷ [])
+    ∷ a_run (holding (whole 0) ∷ holding minus_zero ∷ []) 1 (1 ∷ []) (Ok Internal) (whole 0 ∷ minus_zero ∷ [])
     -- 3: "Input is output, stale, Pass: zeros."
-    ∷ a_run (stale (whole 7) ∷ []) 1 (0 ∷ []) (accepted_answer Internal) (whole 0 ∷ [])
+    ∷ a_run (stale (whole 7) ∷ []) 1 (0 ∷ []) (Ok Internal) (whole 0 ∷ [])
     -- 4: "Same, not stale, n = 1: 7; n = 0: 0."
-    ∷ a_run (holding (whole 7) ∷ []) 1 (0 ∷ []) (refused 7 0) (whole 7 ∷ [])
-    ∷ a_run (holding (whole 7) ∷ []) 0 (0 ∷ []) (accepted_answer Internal) (whole 7 ∷ [])
+    ∷ a_run (holding (whole 7) ∷ []) 1 (0 ∷ []) (refused Clash 0) (whole 7 ∷ [])
+    ∷ a_run (holding (whole 7) ∷ []) 0 (0 ∷ []) (Ok Internal) (whole 7 ∷ [])
     -- 5 to 9: "Ring (10, 20, 30), position 0: f = 0 gives 10; f = 0.25 gives 20; f = 0.5, 30; f = 0.75, 25; f = 1, 20."
     ∷ a_ring (ring_read tens 0 (whole 0) (whole 10))
     ∷ a_ring (ring_read tens 0 quarter64 (whole 20))
@@ -123,8 +127,8 @@ table =
     -- 11: "Comb, ring length 3, response 0.5, limit 1, whole delay, input 1,0,0,0,0: 0, 0, 0.5, 0, 0.25."
     ∷ a_ring (comb_run 3 half64 (whole 1) (impulse 4) (whole 0 ∷ whole 0 ∷ half64 ∷ whole 0 ∷ quarter64 ∷ []))
     -- 12: "Adding 1e16, -1e16, 1 gives 1; 1e16, 1, -1e16 gives 0: such writers may not change places."
-    ∷ a_run terms 1 (1 ∷ 2 ∷ 3 ∷ []) (accepted_answer Internal) (whole 1 ∷ e16 ∷ neg e16 ∷ whole 1 ∷ [])
-    ∷ a_run terms 1 (1 ∷ 3 ∷ 2 ∷ []) (accepted_answer Internal) (whole 0 ∷ e16 ∷ neg e16 ∷ whole 1 ∷ [])
+    ∷ a_run terms 1 (1 ∷ 2 ∷ 3 ∷ []) (Ok Internal) (whole 1 ∷ e16 ∷ neg e16 ∷ whole 1 ∷ [])
+    ∷ a_run terms 1 (1 ∷ 3 ∷ 2 ∷ []) (Ok Internal) (whole 0 ∷ e16 ∷ neg e16 ∷ whole 1 ∷ [])
     -- 13: "Empty order, checks 1 to 4 passed: 0, Exhausted." Here one run; of any input, `thirteen` of proofs/Listed.antt
-    ∷ a_run terms 1 [] (accepted_answer Exhausted) (whole 0 ∷ e16 ∷ neg e16 ∷ whole 1 ∷ [])
+    ∷ a_run terms 1 [] (Ok Exhausted) (whole 0 ∷ e16 ∷ neg e16 ∷ whole 1 ∷ [])
     ∷ []
