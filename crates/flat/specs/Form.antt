@@ -1,8 +1,6 @@
 -- What a kind of stage is made of beside its out_level, by the kind's number. Definitions only. Assumes nothing.
-use Rattle.std.specs.Prelude.{ℕ, cond, List, [], ◌∷◌, ltb, get_or}
+use Rattle.std.specs.Prelude.{ℕ, cond, List, [], ◌∷◌, Option, None, Some, ltb, get_or}
 use Rattle.flat.specs.declared.form.Form.{Form}
-use Rattle.flat.specs.declared.form.Formed.{Formed}
-use Rattle.flat.specs.declared.form.Formed.TheVariants as formed
 
 -- A column to a kind: Pass, Pow3, Clip, LowPass, LowPass2, HighPass, HighPass2, BandPass, Notch, AllPass, plain oscillator,
 -- modulated oscillator, waveguide, RingModulator, Pan.
@@ -42,5 +40,5 @@ form_of kind =
 abbrev pub kind_count : ℕ
 kind_count = 15
 
-abbrev pub formed_of : ℕ → Formed
-formed_of kind = cond (ltb kind kind_count) (formed.Form (form_of kind)) formed.Unknown
+abbrev pub formed_of : ℕ → Option Form
+formed_of kind = cond (ltb kind kind_count) (Some (form_of kind)) None

@@ -1,5 +1,5 @@
 -- Which patch plain numbers name. Assumes nothing.
-use Rattle.std.specs.Prelude.{ℕ, zero, suc, Bool, true, false, cond, leb, eqb, get_or, replicate}
+use Rattle.std.specs.Prelude.{ℕ, zero, suc, Bool, true, false, cond, Option, None, Some, Result, Ok, Err, leb, eqb, get_or, replicate}
 use Rattle.magnetron.specs.Signals.{window}
 use Rattle.magnetron.specs.declared.buffer.BufferIndex.TheVariants.{Internal}
 use Rattle.microwave.specs.declared.parameter.Parameter.TheVariants.{Absent}
@@ -9,23 +9,21 @@ use Rattle.stages.specs.declared.patch.Patch.{Patch}
 use Rattle.flat.specs.Stage.{named_of}
 use Rattle.flat.specs.declared.stage.FlatParameter.{FlatParameter}
 use Rattle.flat.specs.declared.stage.FlatStage.{FlatStage}
-use Rattle.flat.specs.declared.stage.Named.{Named}
-use Rattle.flat.specs.declared.stage.Named.TheVariants as named
 use Rattle.flat.specs.declared.patch.FlatPatch.{FlatPatch}
-use Rattle.flat.specs.declared.patch.NamedPatch.{NamedPatch}
+use Rattle.flat.specs.declared.patch.Unknown.{Unknown}
 
 -- what stands where there is no stage
 abbrev pub blank_stage : Stage
 blank_stage = record { kind = Pass (Internal 0); output = Internal 0; out_level = Absent }
 
 -- the stage that a name gives, or the blank one
-unfoldable pub stage_or : Named → Stage
-stage_or (named.Stage t) = t
-stage_or named.Unknown = blank_stage
+unfoldable pub stage_or : Option Stage → Stage
+stage_or (Some t) = t
+stage_or None = blank_stage
 
-unfoldable pub known : Named → Bool
-known (named.Stage t) = true
-known named.Unknown = false
+unfoldable pub known : Option Stage → Bool
+known (Some t) = true
+known None = false
 
 -- what stands where there are no numbers of a parameter or of a stage, as past the end of a list of stages: zeros
 abbrev pub no_parameter : FlatParameter
@@ -49,7 +47,7 @@ no_flat =
     }
 
 -- what the numbers of stage k name
-abbrev pub name_at : FlatPatch → ℕ → Named
+abbrev pub name_at : FlatPatch → ℕ → Option Stage
 name_at f k = named_of (get_or f.stages k no_flat)
 
 -- how many stages are looked at: none where the count is over its bound, which the run refuses
@@ -72,5 +70,5 @@ named_count f = cond (eqb (unknown_of f) 32) (looked_at f.count) (unknown_of f)
 unfoldable pub patch_of : FlatPatch → Patch
 patch_of f = record { count = f.count; stages = window (replicate 32 blank_stage) 0 (named_count f) (λ k. stage_or (name_at f k)) }
 
-abbrev pub named_patch_of : FlatPatch → NamedPatch
-named_patch_of f = record { patch = patch_of f; unknown = unknown_of f }
+abbrev pub named_patch_of : FlatPatch → Result Patch Unknown
+named_patch_of f = cond (eqb (unknown_of f) 32) (Ok (patch_of f)) (Err (record { stage = unknown_of f; before = patch_of f }))

@@ -4,8 +4,7 @@ use Rattle.magnetron.specs.Signals.{tab}
 use Rattle.util.specs.declared.reach.Reach.TheVariants.{Within}
 use Rattle.util.specs.Reach.{number_of}
 use Rattle.stages.specs.declared.reach.Reaches.{Reaches}
-use Rattle.stages.specs.Reach.{stage_reach}
 
 -- the number of each answer, by stage number
 abbrev pub reach_numbers : Reaches → List ℕ
-reach_numbers r = tab 32 (λ k. number_of (get_or r.stages k (stage_reach Within)).reach)
+reach_numbers r = tab 32 (λ k. number_of (get_or r.stages k Within))

@@ -1,6 +1,6 @@
 -- Which stage plain numbers name. Tables are read from number 0 on; past its end the last entry stands, and `named_of` lets no such number through.
 -- Assumes nothing.
-use Rattle.std.specs.Prelude.{ℕ, ◌-◌, Bool, true, cond, ◌&&◌, List, [], ◌∷◌, ltb, eqb, get_or}
+use Rattle.std.specs.Prelude.{ℕ, ◌-◌, Bool, true, cond, ◌&&◌, Option, None, Some, List, [], ◌∷◌, ltb, eqb, get_or}
 use Rattle.std.specs.Float.{binary64}
 use Rattle.std.specs.Float.Ieee.{of_bits}
 use Rattle.magnetron.specs.Buffers.{buffer_of}
@@ -21,12 +21,8 @@ use Rattle.stages.specs.declared.kind.Kind.TheVariants as kind
 use Rattle.stages.specs.declared.kind.Side.{Side}
 use Rattle.stages.specs.declared.stage.Stage.{Stage}
 use Rattle.flat.specs.declared.form.Form.{Form}
-use Rattle.flat.specs.declared.form.Formed.{Formed}
-use Rattle.flat.specs.declared.form.Formed.TheVariants as formed
 use Rattle.flat.specs.declared.stage.FlatParameter.{FlatParameter}
 use Rattle.flat.specs.declared.stage.FlatStage.{FlatStage}
-use Rattle.flat.specs.declared.stage.Named.{Named}
-use Rattle.flat.specs.declared.stage.Named.TheVariants as named
 use Rattle.flat.specs.Form.{formed_of}
 
 -- by its mark: absent, the number of these bits, the slot, the window's seconds
@@ -130,9 +126,9 @@ abbrev pub stage_from : FlatStage → Stage
 stage_from f = record { kind = kind_of f; output = buffer_of f.output; out_level = parameter_of f.out_level }
 
 -- no stage where there is no such kind, or where one of its numbers is not known
-unfoldable pub named_by : Formed → FlatStage → Named
-named_by (formed.Form form) f = cond (known_of form f) (named.Stage (stage_from f)) named.Unknown
-named_by formed.Unknown f = named.Unknown
+unfoldable pub named_by : Option Form → FlatStage → Option Stage
+named_by (Some form) f = cond (known_of form f) (Some (stage_from f)) None
+named_by None f = None
 
-unfoldable pub named_of : FlatStage → Named
+unfoldable pub named_of : FlatStage → Option Stage
 named_of f = named_by (formed_of f.kind) f

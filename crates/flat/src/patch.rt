@@ -2,7 +2,7 @@
 ghost use Rattle.std.specs.Prelude.{◌≡◌, ◌≤◌};
 ghost use Rattle.flat.specs.Patch.{blank_stage, no_parameter, no_flat, looked_at, named_patch_of};
 
-use crate::stage::{FlatParameter, FlatStage, Named, stage_of};
+use crate::stage::{FlatParameter, FlatStage, stage_of};
 use magnetron::buffer::BufferIndex;
 use microwave::parameter::Parameter;
 use stages::kind::Kind;
@@ -17,11 +17,11 @@ pub struct FlatPatch {
     pub stages: [FlatStage; 32],
 }
 
-// The patch, and the first of its stages whose numbers name none; 32 where each names one.
+// The first stage whose numbers name none, and the patch of the stages before it.
 #[derive(Clone, Copy)]
-pub struct NamedPatch {
-    pub patch: Patch,
-    pub unknown: usize,
+pub struct Unknown {
+    pub stage: usize,
+    pub before: Patch,
 }
 
 // What stands where there is no stage.
@@ -76,23 +76,25 @@ fn looked_at(count: usize) -> usize
     if count <= 32 { count } else { 0 }
 }
 
-// The patch of the first `count` stages, up to the first that is unknown.
-pub fn patch_of(flat: FlatPatch) -> NamedPatch
+// The patch of the first `count` stages; Unknown where the numbers of one of them name none.
+pub fn patch_of(flat: FlatPatch) -> Result<Patch, Unknown>
     ensures { result ≡ named_patch_of flat }
 {
     let blank = blank_stage();
-    let looked = looked_at(flat.count);
     let mut patch = Patch {
         count: flat.count,
         stages: [blank; 32],
     };
-    let mut k = 0;
-    while k < looked {
-        let Named::Stage(stage) = stage_of(flat.stages[k]) else {
-            return NamedPatch { patch, unknown: k };
+    let looked = looked_at(flat.count);
+    for k in 0..looked {
+        let Some(stage) = stage_of(flat.stages[k]) else {
+            let unknown = Unknown {
+                stage: k,
+                before: patch,
+            };
+            return Err(unknown);
         };
         patch.stages[k] = stage;
-        k += 1;
     }
-    NamedPatch { patch, unknown: 32 }
+    Ok(patch)
 }

@@ -3,19 +3,14 @@ ghost use Rattle.std.specs.Prelude.{◌≡◌};
 ghost use Rattle.flat.specs.Reach.{reach_numbers};
 
 use stages::reach::Reaches;
-use util::reach::number;
 
 // By stage number.
 pub fn reach_numbers(reaches: Reaches) -> [u8; 32]
     ensures { result ≡ reach_numbers reaches }
 {
     let mut numbers = [0u8; 32];
-    let mut k = 0;
-    while k < 32 {
-        let told = reaches.stages[k];
-        let reach = told.reach;
-        numbers[k] = number(reach);
-        k += 1;
+    for (k, reach) in reaches.stages.iter().enumerate() {
+        numbers[k] = u8::from(*reach);
     }
     numbers
 }

@@ -3,7 +3,7 @@
 ghost use Rattle.std.specs.Prelude.{◌≡◌};
 ghost use Rattle.flat.specs.Stage.{parameter_of, waveform_of, modulation_of, reflectance_of, filter_of, oscillator_of, waveguide_of, pan_of, kind_of, chosen_of, marked_of, known_of, named_of};
 
-use crate::form::{Form, Formed, form_of};
+use crate::form::{Form, form_of};
 use magnetron::buffer::buffer_of;
 use microwave::filter::FilterType;
 use microwave::oscillator::{Modulation, OscillatorSpec, OscillatorType};
@@ -40,12 +40,6 @@ pub struct FlatStage {
     pub first: FlatParameter,
     pub second: FlatParameter,
     pub third: FlatParameter,
-}
-
-#[derive(Clone, Copy)]
-pub enum Named {
-    Stage(Stage),
-    Unknown,
 }
 
 // Here and in the choices below, the last arm takes each number past the table too: `known` lets none of those through.
@@ -257,20 +251,17 @@ fn known(form: Form, flat: FlatStage) -> bool
     marked(count > 2, third)
 }
 
-// The stage that the numbers name; Unknown where there is no such kind, choice or mark.
-pub fn stage_of(flat: FlatStage) -> Named
+// The stage that the numbers name; None where there is no such kind, choice or mark.
+pub fn stage_of(flat: FlatStage) -> Option<Stage>
     ensures { result ≡ named_of flat }
 {
-    let Formed::Form(form) = form_of(flat.kind) else {
-        return Named::Unknown;
-    };
+    let form = form_of(flat.kind)?;
     if !known(form, flat) {
-        return Named::Unknown;
+        return None;
     }
-    let out_level = flat.out_level;
-    Named::Stage(Stage {
+    Some(Stage {
         kind: kind_of(flat),
         output: buffer_of(flat.output),
-        out_level: parameter_of(out_level),
+        out_level: parameter_of(flat.out_level),
     })
 }

@@ -13,10 +13,9 @@ use Rattle.magnetron.specs.Signals.{window}
 use Rattle.magnetron.proofs.Windows.{window_none, window-next}
 use Rattle.stages.specs.declared.stage.Stage.{Stage}
 use Rattle.stages.specs.declared.patch.Patch.{Patch}
-use Rattle.flat.specs.declared.stage.Named.{Named}
-use Rattle.flat.specs.declared.stage.Named.TheVariants as named
+use Rattle.std.specs.Prelude.{Option, None, Some, Ok, Err}
 use Rattle.flat.specs.declared.patch.FlatPatch.{FlatPatch}
-use Rattle.flat.specs.declared.patch.NamedPatch.{NamedPatch}
+use Rattle.flat.specs.declared.patch.Unknown.{Unknown}
 use Rattle.flat.specs.Patch.{blank_stage, stage_or, known, name_at, looked_at, unknown_from, unknown_of, named_count, patch_of, named_patch_of}
 
 abbrev pub none : List Stage
@@ -36,8 +35,8 @@ pub record Naming (f : FlatPatch) (looked : ℕ) (p : Patch) (k : ℕ) : Type 0 
 same_patch : {p q : Patch} → p.count ≡ q.count → p.stages ≡ q.stages → p ≡ q
 same_patch e h = ap₂ (λ (count : ℕ) (stages : List Stage). record { count = count; stages = stages }) e h
 
-abbrev answer : Patch → ℕ → NamedPatch
-answer p unknown = record { patch = p; unknown = unknown }
+abbrev unknown : Patch → ℕ → Unknown
+unknown p k = record { stage = k; before = p }
 
 module _ (f : FlatPatch) (looked : ℕ) where
   pub naming_start : (p : Patch) → looked ≤ 32 → p.count ≡ f.count → p.stages ≡ none → Naming f looked p 0
@@ -50,24 +49,24 @@ module _ (f : FlatPatch) (looked : ℕ) where
       let more : looked - k ≡ suc (looked - (k + 1)) = omega arith in
       rw (more, add-one) refl
 
-  pub naming_more : (p : Patch) (k : ℕ) (name : Named) (t : Stage) → k < looked → Naming f looked p k → name ≡ name_at f k → name ≡ named.Stage t
+  pub naming_more : (p : Patch) (k : ℕ) (name : Option Stage) (t : Stage) → k < looked → Naming f looked p k → name ≡ name_at f k → name ≡ Some t
       → Naming f looked (record { count = p.count; stages = set p.stages k t }) (k + 1)
   unfolding known stage_or
   naming_more p k name t h w e q =
-      let here : name_at f k ≡ named.Stage t = sym e ∙ q in
+      let here : name_at f k ≡ Some t = sym e ∙ q in
       record {
         upto = omega arith;
         few = w.few;
         count = w.count;
         named = ap (λ (i : ℕ). set p.stages i t) (omega arith) ∙ window-next none 0 (stage_at f) k p.stages t (omega arith) w.named (ap stage_or (sym here));
-        rest = sym (left k h ∙ ap (λ (n : Named). cond (known n) (unknown_from f (looked - (k + 1)) (k + 1)) k) here) ∙ w.rest;
+        rest = sym (left k h ∙ ap (λ (n : Option Stage). cond (known n) (unknown_from f (looked - (k + 1)) (k + 1)) k) here) ∙ w.rest;
       }
 
   -- a stage that is not known
-  naming_stop : (p : Patch) (k : ℕ) (name : Named) → k < looked → Naming f looked p k → name ≡ name_at f k → name ≡ named.Unknown → k ≡ unknown_from f looked 0
+  naming_stop : (p : Patch) (k : ℕ) (name : Option Stage) → k < looked → Naming f looked p k → name ≡ name_at f k → name ≡ None → k ≡ unknown_from f looked 0
   unfolding known
   naming_stop p k name h w e q =
-      sym (left k h ∙ ap (λ (n : Named). cond (known n) (unknown_from f (looked - (k + 1)) (k + 1)) k) (sym e ∙ q)) ∙ w.rest
+      sym (left k h ∙ ap (λ (n : Option Stage). cond (known n) (unknown_from f (looked - (k + 1)) (k + 1)) k) (sym e ∙ q)) ∙ w.rest
 
   -- no stage is left
   naming_end : (p : Patch) (k : ℕ) → looked ≤ k → Naming f looked p k → 32 ≡ unknown_from f looked 0
@@ -83,21 +82,21 @@ module _ (f : FlatPatch) (looked : ℕ) where
     upto_named p k w e = same_patch w.count (w.named ∙ ap (λ (n : ℕ). window none 0 n (stage_at f)) e)
 
     -- what is answered at a stage that is not known
-    pub read_stopped : (p : Patch) (k : ℕ) (name : Named) → k < looked → Naming f looked p k → name ≡ name_at f k → name ≡ named.Unknown
-        → answer p k ≡ named_patch_of f
+    pub read_stopped : (p : Patch) (k : ℕ) (name : Option Stage) → k < looked → Naming f looked p k → name ≡ name_at f k → name ≡ None
+        → Err (unknown p k) ≡ named_patch_of f
     unfolding unknown_of
     read_stopped p k name h w e q =
         let here : k ≡ unknown_from f looked 0 = naming_stop p k name h w e q in
         let first : k ≡ unknown_of f = here ∙ ap (λ (n : ℕ). unknown_from f n 0) all in
         let some : eqb (unknown_of f) 32 ≡ false = ne_eqb (unknown_of f) 32 (λ (g : unknown_of f ≡ 32). absurd (omega (arith, h, first, g, w.few))) in
         let last : k ≡ named_count f = first ∙ sym (ap (λ (b : Bool). cond b (looked_at f.count) (unknown_of f)) some) in
-        ap₂ answer (upto_named p k w last) first
+        rw (some, upto_named p k w last, first)
 
     -- what is answered after the last one
-    pub read_all : (p : Patch) (k : ℕ) → looked ≤ k → Naming f looked p k → answer p 32 ≡ named_patch_of f
+    pub read_all : (p : Patch) (k : ℕ) → looked ≤ k → Naming f looked p k → Ok p ≡ named_patch_of f
     unfolding unknown_of
     read_all p k h w =
         let end : 32 ≡ unknown_of f = naming_end p k h w ∙ ap (λ (n : ℕ). unknown_from f n 0) all in
         let none_unknown : eqb (unknown_of f) 32 ≡ true = eq-eqb (unknown_of f) 32 (sym end) in
         let last : k ≡ named_count f = le_antisymm w.upto h ∙ all ∙ sym (ap (λ (b : Bool). cond b (looked_at f.count) (unknown_of f)) none_unknown) in
-        ap₂ answer (upto_named p k w last) end
+        rw (none_unknown, upto_named p k w last)

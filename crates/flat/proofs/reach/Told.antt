@@ -9,10 +9,9 @@ use Rattle.magnetron.specs.Signals.{tab}
 use Rattle.util.specs.declared.reach.Reach.TheVariants.{Within}
 use Rattle.util.specs.Reach.{number_of}
 use Rattle.stages.specs.declared.reach.Reaches.{Reaches}
-use Rattle.stages.specs.Reach.{stage_reach}
 
 abbrev pub told : Reaches → ℕ → ℕ
-told r k = number_of (get_or r.stages k (stage_reach Within)).reach
+told r k = number_of (get_or r.stages k Within)
 
 pub next_told : (f : ℕ → ℕ) (numbers : List ℕ) (k n : ℕ) → k < length numbers → take k numbers ≡ tab k f → n ≡ f k → take (k + 1) (set numbers k n) ≡ tab (k + 1) f
 unfolding tab

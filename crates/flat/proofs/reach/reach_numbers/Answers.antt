@@ -7,18 +7,17 @@ use Rattle.flat.proofs.reach.Told.{told, next_told}
 use Rattle.flat.proofs.reach.reach_numbers.Goals as goal
 
 pub loop-k-init : goal.loop-k-init
-loop-k-init c = (omega arith, refl, unfold tab in refl)
+loop-k-init c = (refl, unfold tab in refl)
 
 pub loop-k-preserved : goal.loop-k-preserved
 loop-k-preserved c =
     let w = c.loop-k in (
-      omega arith,
-      rw length-set w.invariant.1,
-      next_told (told c.args.reaches) w.numbers w.k _ (omega arith) w.invariant.2 c.number.ensures,
+      rw length-set w.invariant.0,
+      next_told (told c.args.reaches) w.numbers w.k _ (omega arith) w.invariant.1 c.from.ensures,
     )
 
 pub returns : goal.returns
 returns c =
     let w = c.loop-k in
     let e : w.k ≡ 32 = omega arith in
-    rw (take_all 32 w.numbers (omega arith)) at (rw e at w.invariant.2)
+    rw (take_all 32 w.numbers (omega arith)) at (rw e at w.invariant.1)
