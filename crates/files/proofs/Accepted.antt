@@ -13,8 +13,7 @@ use borrow.Author.Tests.{leb-true, le-leb}
 use Rattle.flat.specs.declared.stage.FlatStage.{FlatStage}
 use Rattle.flat.specs.declared.patch.FlatPatch.{FlatPatch}
 use Rattle.files.specs.Reader.{Part, said, refused, Reader, followed, ◌>>=◌, judged}
-use Rattle.files.specs.File.{number, stages, end, patch_from, file, answered, read_of}
-use Rattle.files.specs.declared.patch.ReadPatch.{ReadPatch}
+use Rattle.files.specs.File.{number, stages, end, patch_from, file, answered, read_of, ReadPatch}
 use Rattle.files.proofs.Following.{passed}
 use Rattle.files.proofs.Steady.{Sound, Steady, fault, steady_then, steady_judged, steady_number, steady_stages}
 

@@ -5,8 +5,7 @@ use Prim.Native.Nat.{ℕ}
 use Rattle.flat.specs.Patch.{no_parameter}
 use Rattle.flat.specs.declared.stage.FlatStage.{FlatStage}
 use Rattle.files.specs.Reader.{followed, ◌>>=◌, judged}
-use Rattle.files.specs.File.{byte_of, groups, number, choice, eight, parameter, choices, wires, parameters, parts, stage, stages, end, patch_from, file, answered, read_of}
-use Rattle.files.specs.declared.patch.ReadPatch.{ReadPatch}
+use Rattle.files.specs.File.{byte_of, groups, number, choice, eight, parameter, choices, wires, parameters, parts, stage, stages, end, patch_from, file, answered, read_of, ReadPatch}
 
 abbrev refusal : ℕ → ℕ → ReadPatch
 refusal n offset = record { number = n; offset = offset; patch = patch_from [] }

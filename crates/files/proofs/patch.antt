@@ -1,3 +1,2 @@
 -- Laws that the proofs of `files::patch` alone cite.
-mod Staging
 mod Ending

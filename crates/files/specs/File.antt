@@ -11,7 +11,6 @@ use Rattle.files.specs.Reader.{Part, said, refused, Reader, saying, refusing, �
 use Rattle.files.specs.declared.stage.Choices.{Choices}
 use Rattle.files.specs.declared.stage.Wires.{Wires}
 use Rattle.files.specs.declared.stage.Parameters.{Parameters}
-use Rattle.files.specs.declared.patch.ReadPatch.{ReadPatch}
 
 -- ---- a number
 
@@ -141,6 +140,12 @@ file = do
   ts ← stages count
   _ ← end
   saying (patch_from ts)
+
+-- what a file is answered with, in numbers: 0, 0 and the patch; or a refusal's number, the offset where what is at fault begins, and the empty patch
+pub record ReadPatch : Type 0 where
+  pub number : ℕ
+  pub offset : ℕ
+  pub patch : FlatPatch
 
 -- "A refusal gives its number and the offset .., and no patch"
 unfoldable pub answered : Part FlatPatch → ReadPatch

@@ -2,6 +2,7 @@
 // Rests on `flat` for the patch and for what a kind is made of, and on `words` for eight bytes.
 #![tactic(auto)]
 
+pub mod fault;
 mod parameter;
 pub mod patch;
 mod reading;

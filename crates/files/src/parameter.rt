@@ -3,48 +3,34 @@ ghost use Rattle.std.specs.Prelude.{◌≡◌};
 ghost use Rattle.flat.specs.Patch.{no_parameter};
 ghost use Rattle.files.specs.Reader.{if_there};
 ghost use Rattle.files.specs.File.{parameter};
-ghost use Rattle.files.specs.Inside.{told, after};
+ghost use Rattle.files.specs.Inside.{told};
 
+use crate::fault::Fault;
 use crate::reading::Reading;
 use flat::patch::no_parameter;
 use flat::stage::FlatParameter;
 
-// How far was read, and the parameter.
-#[derive(Clone, Copy)]
-pub(crate) struct ParameterRead {
-    pub reading: Reading,
-    pub parameter: FlatParameter,
-}
-
-// Its mark, and what the mark says that there is: bits, or a slot.
-pub(crate) fn read_parameter(start: Reading, bytes: &[u8]) -> ParameterRead
-    ensures { told result.parameter result.reading ≡ after start parameter bytes.now }
-{
-    let mark = start.one_of(bytes, 4);
-    let marked = mark.reading;
-    let bits = marked.eight_if(bytes, mark.value == 1);
-    let between = bits.reading;
-    let slot = between.number_if(bytes, mark.value == 2);
-    let reading = slot.reading;
-    ParameterRead {
-        reading,
-        parameter: FlatParameter {
-            mark: mark.value,
-            slot: slot.value,
-            bits: bits.bits,
-        },
+impl<'a> Reading<'a> {
+    // Its mark, and what the mark says that there is: bits, or a slot.
+    pub(crate) fn parameter(&mut self) -> Result<FlatParameter, Fault>
+        ensures said { told result self.new.offset ≡ parameter self.old.bytes.now self.old.offset }
+        ensures kept { self.new.bytes ≡ self.old.bytes }
+    {
+        let mark = self.one_of(4)?;
+        let bits = self.eight_if(mark == 1)?;
+        let slot = self.number_if(mark == 2)?;
+        Ok(FlatParameter { mark, slot, bits })
     }
-}
 
-// A parameter where the kind has it, else an absent one with nothing read.
-pub(crate) fn read_parameter_if(start: Reading, bytes: &[u8], has: bool) -> ParameterRead
-    ensures { told result.parameter result.reading ≡ after start (if_there has no_parameter parameter) bytes.now }
-{
-    if has {
-        return read_parameter(start, bytes);
-    }
-    ParameterRead {
-        reading: start,
-        parameter: no_parameter(),
+    // A parameter where the kind has it, else an absent one with nothing read.
+    pub(crate) fn parameter_if(&mut self, there: bool) -> Result<FlatParameter, Fault>
+        ensures said { told result self.new.offset ≡ if_there there no_parameter parameter self.old.bytes.now self.old.offset }
+        ensures kept { self.new.bytes ≡ self.old.bytes }
+    {
+        if there {
+            self.parameter()
+        } else {
+            Ok(no_parameter())
+        }
     }
 }

@@ -1,192 +1,97 @@
-// How far a file has been read, and the numbers that are read there. A refusal stays: what comes after it is not looked at, and what is said
-// with it means nothing. Rests on `words` for eight bytes.
+// A reading of a file, part by part: numbers, choices, and eight bytes. The first fault ends it. Rests on `words` for eight bytes.
 ghost use Rattle.std.specs.Prelude.{◌≡◌};
 ghost use Rattle.files.specs.Reader.{if_there};
 ghost use Rattle.files.specs.File.{number, one_of, choice, eight};
-ghost use Rattle.files.specs.Inside.{told, after, stopped, in_range, judged_by};
+ghost use Rattle.files.specs.Inside.{told};
 
-use words::reader::{Cursor, Taken};
+use crate::fault::{Fault, FaultReason, fault_unless};
+use words::reader::Cursor;
 
-// 0 and the offset of what is read next; or a refusal's number and the offset where what is at fault begins.
+const LARGEST: usize = 4_294_967_295;
+
+// The file's bytes, and the offset of what is read next. After a fault the offset says nothing: no more is read.
 #[derive(Clone, Copy)]
-pub(crate) struct Reading {
-    pub refusal: usize,
+pub(crate) struct Reading<'a> {
+    pub bytes: &'a [u8],
     pub offset: usize,
 }
 
-// How far was read, and the number.
-#[derive(Clone, Copy)]
-pub(crate) struct NumberRead {
-    pub reading: Reading,
-    pub value: usize,
-}
-
-// How far was read, and the bits that eight bytes make.
-#[derive(Clone, Copy)]
-pub(crate) struct BitsRead {
-    pub reading: Reading,
-    pub bits: u64,
-}
-
-impl Reading {
-    pub(crate) fn number(self, bytes: &[u8]) -> NumberRead
-        ensures { told result.value result.reading ≡ after self number bytes.now }
+impl<'a> Reading<'a> {
+    // In groups of seven bits, the lowest first: each time round a group.
+    pub(crate) fn number(&mut self) -> Result<usize, Fault>
+        ensures said { told result self.new.offset ≡ number self.old.bytes.now self.old.offset }
+        ensures kept { self.new.bytes ≡ self.old.bytes }
     {
-        if self.refusal != 0 {
-            return NumberRead {
-                reading: self,
-                value: 0,
+        let start = self.offset;
+        let mut value = 0;
+        let mut weight = 1;
+        for _ in 0..5usize {
+            let Some(byte) = self.bytes.get(self.offset).copied() else {
+                return Err(FaultReason::EndsEarly.at(start));
             };
+            self.offset += 1;
+            value += usize::from(byte % 128) * weight;
+            if byte < 128 {
+                fault_unless(value <= LARGEST, FaultReason::TooLarge, start)?;
+                return Ok(value);
+            }
+            weight *= 128;
         }
-        number_at(self.offset, bytes)
+        Err(FaultReason::TooLarge.at(start))
     }
 
     // A kind, a choice or a mark: one of `limit`, from 0.
-    pub(crate) fn one_of(self, bytes: &[u8], limit: usize) -> NumberRead
-        ensures { told result.value result.reading ≡ after self (one_of limit) bytes.now }
+    pub(crate) fn one_of(&mut self, limit: usize) -> Result<usize, Fault>
+        ensures said { told result self.new.offset ≡ one_of limit self.old.bytes.now self.old.offset }
+        ensures kept { self.new.bytes ≡ self.old.bytes }
     {
-        let read = self.number(bytes);
-        read.judged(22, self.offset, read.value < limit)
+        let start = self.offset;
+        let value = self.number()?;
+        fault_unless(value < limit, FaultReason::Unknown, start)?;
+        Ok(value)
     }
 
-    // Where there is something to choose from, which; else nothing is read.
-    pub(crate) fn choice(self, bytes: &[u8], limit: u8) -> NumberRead
-        ensures { told result.value result.reading ≡ after self (choice limit) bytes.now }
+    // Where there is something to choose from, which; else 0 with nothing read.
+    pub(crate) fn choice(&mut self, limit: u8) -> Result<usize, Fault>
+        ensures said { told result self.new.offset ≡ choice limit self.old.bytes.now self.old.offset }
+        ensures kept { self.new.bytes ≡ self.old.bytes }
     {
-        if limit == 0 {
-            return NumberRead {
-                reading: self,
-                value: 0,
-            };
+        if limit > 0 {
+            self.one_of(usize::from(limit))
+        } else {
+            Ok(0)
         }
-        self.one_of(bytes, limit as usize)
     }
 
     // A number where there is one, else 0 with nothing read.
-    pub(crate) fn number_if(self, bytes: &[u8], has: bool) -> NumberRead
-        ensures { told result.value result.reading ≡ after self (if_there has 0 number) bytes.now }
+    pub(crate) fn number_if(&mut self, there: bool) -> Result<usize, Fault>
+        ensures said { told result self.new.offset ≡ if_there there 0 number self.old.bytes.now self.old.offset }
+        ensures kept { self.new.bytes ≡ self.old.bytes }
     {
-        if has {
-            return self.number(bytes);
-        }
-        NumberRead {
-            reading: self,
-            value: 0,
-        }
+        if there { self.number() } else { Ok(0) }
     }
 
-    fn eight(self, bytes: &[u8]) -> BitsRead
-        ensures { told result.bits result.reading ≡ after self eight bytes.now }
+    // The bits that eight bytes make.
+    fn eight(&mut self) -> Result<u64, Fault>
+        ensures said { told result self.new.offset ≡ eight self.old.bytes.now self.old.offset }
+        ensures kept { self.new.bytes ≡ self.old.bytes }
     {
-        if self.refusal != 0 {
-            return BitsRead {
-                reading: self,
-                bits: 0,
-            };
-        }
-        eight_at(self.offset, bytes)
+        let here = Cursor {
+            at: self.offset,
+            end: self.bytes.len(),
+        };
+        let Some((bits, rest)) = here.take(self.bytes) else {
+            return Err(FaultReason::EndsEarly.at(self.offset));
+        };
+        self.offset = rest.at;
+        Ok(bits)
     }
 
     // Eight bytes where they are there, else no bits with nothing read.
-    pub(crate) fn eight_if(self, bytes: &[u8], has: bool) -> BitsRead
-        ensures { told result.bits result.reading ≡ after self (if_there has 0 eight) bytes.now }
+    pub(crate) fn eight_if(&mut self, there: bool) -> Result<u64, Fault>
+        ensures said { told result self.new.offset ≡ if_there there 0 eight self.old.bytes.now self.old.offset }
+        ensures kept { self.new.bytes ≡ self.old.bytes }
     {
-        if has {
-            return self.eight(bytes);
-        }
-        BitsRead {
-            reading: self,
-            bits: 0,
-        }
-    }
-}
-
-impl NumberRead {
-    // The number that began at `start` is refused where it is not good.
-    pub(crate) fn judged(self, refusal: usize, start: usize, good: bool) -> NumberRead
-        ensures { result ≡ judged_by self refusal start good }
-    {
-        let reading = self.reading;
-        if reading.refusal != 0 {
-            return stop(reading.refusal, reading.offset);
-        }
-        if good {
-            return self;
-        }
-        stop(refusal, start)
-    }
-}
-
-fn stop(refusal: usize, offset: usize) -> NumberRead
-    ensures { result ≡ stopped refusal offset }
-{
-    NumberRead {
-        reading: Reading { refusal, offset },
-        value: 0,
-    }
-}
-
-// The number that begins at `start`: each time round a group of seven bits, the lowest first.
-fn number_at(start: usize, bytes: &[u8]) -> NumberRead
-    ensures { told result.value result.reading ≡ number bytes.now start }
-{
-    let mut at = start;
-    let mut value = 0;
-    let mut weight = 1;
-    let mut k = 0usize;
-    while k < 5 {
-        if bytes.len() <= at {
-            return stop(20, start);
-        }
-        let byte = bytes[at];
-        at += 1;
-        value += (byte % 128) as usize * weight;
-        if byte < 128 {
-            return in_range(start, at, value);
-        }
-        weight *= 128;
-        k += 1;
-    }
-    stop(23, start)
-}
-
-// The number that began at `start` and ends before `at`, where it is not too large.
-fn in_range(start: usize, at: usize, value: usize) -> NumberRead
-    ensures { result ≡ in_range start at value }
-{
-    if value > 4_294_967_295 {
-        return stop(23, start);
-    }
-    NumberRead {
-        reading: Reading {
-            refusal: 0,
-            offset: at,
-        },
-        value,
-    }
-}
-
-fn eight_at(start: usize, bytes: &[u8]) -> BitsRead
-    ensures { told result.bits result.reading ≡ eight bytes.now start }
-{
-    let here = Cursor {
-        at: start,
-        end: bytes.len(),
-    };
-    let Taken::Word(bits, rest) = here.take(bytes) else {
-        return BitsRead {
-            reading: Reading {
-                refusal: 20,
-                offset: start,
-            },
-            bits: 0,
-        };
-    };
-    BitsRead {
-        reading: Reading {
-            refusal: 0,
-            offset: rest.at,
-        },
-        bits,
+        if there { self.eight() } else { Ok(0) }
     }
 }

@@ -1,12 +1,11 @@
 // A stage of a patch file. Rests on `flat` for what a kind is made of, and on `reading` and `parameter` for its parts.
 ghost use Rattle.std.specs.Prelude.{◌≡◌};
 ghost use Rattle.files.specs.File.{choices, wires, parameters, stage_from, parts, stage};
-ghost use Rattle.files.specs.Inside.{told, after};
+ghost use Rattle.files.specs.Inside.{told};
 
-use crate::parameter::{ParameterRead, read_parameter, read_parameter_if};
+use crate::fault::{Fault, FaultReason};
 use crate::reading::Reading;
-use flat::form::{Form, Formed, form_of};
-use flat::patch::no_flat;
+use flat::form::{Form, form_of};
 use flat::stage::{FlatParameter, FlatStage};
 
 // What is chosen, and a waveguide's size. What the kind does not have is 0.
@@ -35,153 +34,70 @@ pub(crate) struct Parameters {
     pub third: FlatParameter,
 }
 
-// How far was read, and what: each of these three, and a stage.
-#[derive(Clone, Copy)]
-pub(crate) struct ChoicesRead {
-    pub reading: Reading,
-    pub choices: Choices,
-}
-
-#[derive(Clone, Copy)]
-pub(crate) struct WiresRead {
-    pub reading: Reading,
-    pub wires: Wires,
-}
-
-#[derive(Clone, Copy)]
-pub(crate) struct ParametersRead {
-    pub reading: Reading,
-    pub parameters: Parameters,
-}
-
-#[derive(Clone, Copy)]
-pub(crate) struct StageRead {
-    pub reading: Reading,
-    pub stage: FlatStage,
-}
-
-fn read_choices(start: Reading, bytes: &[u8], form: Form) -> ChoicesRead
-    ensures { told result.choices result.reading ≡ after start (choices form) bytes.now }
-{
-    let choice = start.choice(bytes, form.choices);
-    let chosen = choice.reading;
-    let modulation = chosen.choice(bytes, form.modulations);
-    let modulated = modulation.reading;
-    let size = modulated.number_if(bytes, form.sizes > 0);
-    let reading = size.reading;
-    ChoicesRead {
-        reading,
-        choices: Choices {
-            choice: choice.value,
-            modulation: modulation.value,
-            buffer_size: size.value,
-        },
-    }
-}
-
-fn read_wires(start: Reading, bytes: &[u8], form: Form) -> WiresRead
-    ensures { told result.wires result.reading ≡ after start (wires form) bytes.now }
-{
-    let first = start.number_if(bytes, form.inputs > 0);
-    let between = first.reading;
-    let second = between.number_if(bytes, form.inputs > 1);
-    let heard = second.reading;
-    let output = heard.number(bytes);
-    let written = output.reading;
-    let right = written.number_if(bytes, form.outputs > 1);
-    let reading = right.reading;
-    WiresRead {
-        reading,
-        wires: Wires {
-            first_input: first.value,
-            second_input: second.value,
-            output: output.value,
-            second_output: right.value,
-        },
-    }
-}
-
-fn read_parameters(start: Reading, bytes: &[u8], form: Form) -> ParametersRead
-    ensures { told result.parameters result.reading ≡ after start (parameters form) bytes.now }
-{
-    let level = read_parameter(start, bytes);
-    let levelled = level.reading;
-    let first = read_parameter_if(levelled, bytes, form.parameters > 0);
-    let after_first = first.reading;
-    let second = read_parameter_if(after_first, bytes, form.parameters > 1);
-    let after_second = second.reading;
-    let third = read_parameter_if(after_second, bytes, form.parameters > 2);
-    let reading = third.reading;
-    let parameters = parameters_from(level, first, second, third);
-    ParametersRead {
-        reading,
-        parameters,
-    }
-}
-
-fn parameters_from(
-    level: ParameterRead,
-    one: ParameterRead,
-    two: ParameterRead,
-    three: ParameterRead,
-) -> Parameters
-    ensures { result ≡ record { out_level = level.parameter; first = one.parameter; second = two.parameter; third = three.parameter } }
-{
-    let out_level = level.parameter;
-    let first = one.parameter;
-    let second = two.parameter;
-    let third = three.parameter;
-    Parameters {
-        out_level,
-        first,
-        second,
-        third,
-    }
-}
-
-// A stage, of a kind that there is.
-pub(crate) fn read_stage(start: Reading, bytes: &[u8]) -> StageRead
-    ensures { told result.stage result.reading ≡ after start stage bytes.now }
-{
-    let kind = start.number(bytes);
-    let Formed::Form(form) = form_of(kind.value) else {
-        let unknown = kind.judged(22, start.offset, false);
-        let reading = unknown.reading;
-        return StageRead {
-            reading,
-            stage: no_flat(),
+impl<'a> Reading<'a> {
+    // A stage, of a kind that there is.
+    pub(crate) fn stage(&mut self) -> Result<FlatStage, Fault>
+        ensures said { told result self.new.offset ≡ stage self.old.bytes.now self.old.offset }
+        ensures kept { self.new.bytes ≡ self.old.bytes }
+    {
+        let start = self.offset;
+        let kind = self.number()?;
+        let Some(form) = form_of(kind) else {
+            return Err(FaultReason::Unknown.at(start));
         };
-    };
-    let named = kind.reading;
-    read_parts(named, bytes, kind.value, form)
-}
+        self.parts(kind, form)
+    }
 
-// What follows the kind.
-fn read_parts(start: Reading, bytes: &[u8], kind: usize, form: Form) -> StageRead
-    ensures { told result.stage result.reading ≡ after start (parts kind form) bytes.now }
-{
-    let chosen = read_choices(start, bytes, form);
-    let before = chosen.reading;
-    let wired = read_wires(before, bytes, form);
-    let between = wired.reading;
-    let given = read_parameters(between, bytes, form);
-    let reading = given.reading;
-    let choices = chosen.choices;
-    let wires = wired.wires;
-    let parameters = given.parameters;
-    StageRead {
-        reading,
-        stage: stage_from(kind, choices, wires, parameters),
+    // What follows the kind.
+    fn parts(&mut self, kind: usize, form: Form) -> Result<FlatStage, Fault>
+        ensures said { told result self.new.offset ≡ parts kind form self.old.bytes.now self.old.offset }
+        ensures kept { self.new.bytes ≡ self.old.bytes }
+    {
+        let choices = self.choices(form)?;
+        let wires = self.wires(form)?;
+        let parameters = self.parameters(form)?;
+        Ok(stage_from(kind, choices, wires, parameters))
+    }
+
+    fn choices(&mut self, form: Form) -> Result<Choices, Fault>
+        ensures said { told result self.new.offset ≡ choices form self.old.bytes.now self.old.offset }
+        ensures kept { self.new.bytes ≡ self.old.bytes }
+    {
+        Ok(Choices {
+            choice: self.choice(form.choices)?,
+            modulation: self.choice(form.modulations)?,
+            buffer_size: self.number_if(form.sizes > 0)?,
+        })
+    }
+
+    fn wires(&mut self, form: Form) -> Result<Wires, Fault>
+        ensures said { told result self.new.offset ≡ wires form self.old.bytes.now self.old.offset }
+        ensures kept { self.new.bytes ≡ self.old.bytes }
+    {
+        Ok(Wires {
+            first_input: self.number_if(form.inputs > 0)?,
+            second_input: self.number_if(form.inputs > 1)?,
+            output: self.number()?,
+            second_output: self.number_if(form.outputs > 1)?,
+        })
+    }
+
+    fn parameters(&mut self, form: Form) -> Result<Parameters, Fault>
+        ensures said { told result self.new.offset ≡ parameters form self.old.bytes.now self.old.offset }
+        ensures kept { self.new.bytes ≡ self.old.bytes }
+    {
+        Ok(Parameters {
+            out_level: self.parameter()?,
+            first: self.parameter_if(form.parameters > 0)?,
+            second: self.parameter_if(form.parameters > 1)?,
+            third: self.parameter_if(form.parameters > 2)?,
+        })
     }
 }
 
 fn stage_from(kind: usize, choices: Choices, wires: Wires, parameters: Parameters) -> FlatStage
     ensures { result ≡ stage_from kind choices wires parameters }
 {
-    let out_level = parameters.out_level;
-    let first = parameters.first;
-    let second = parameters.second;
-    let third = parameters.third;
     FlatStage {
         kind,
         choice: choices.choice,
@@ -191,9 +107,9 @@ fn stage_from(kind: usize, choices: Choices, wires: Wires, parameters: Parameter
         second_input: wires.second_input,
         output: wires.output,
         second_output: wires.second_output,
-        out_level,
-        first,
-        second,
-        third,
+        out_level: parameters.out_level,
+        first: parameters.first,
+        second: parameters.second,
+        third: parameters.third,
     }
 }

@@ -1,6 +1,6 @@
 -- The loop that reads a number, a group each time round: its invariant and its steps. Assumes nothing.
 use mathlib.Core.Path.{◌≡◌, refl, sym, ap, ◌∙◌}
-use mathlib.Core.Bool.{Bool, true, false, cond}
+use mathlib.Core.Bool.{cond}
 use mathlib.Core.List.{List}
 use Prim.Native.Nat.{ℕ, zero, suc, ◌+◌, ◌-◌, ◌*◌, ◌%◌, ◌<◌, ◌≤◌}
 use native.Mathlib.Nat.{mul_comm, mul-add, mul_assoc, mul-le-mul, mul-le-mul_right}
@@ -10,9 +10,6 @@ use lib.ListN.{length, get_or}
 use borrow.Author.Tests.{lt-ltb, le-ltb, le-leb, lt-leb}
 use Rattle.files.specs.Reader.{Part, said, refused, followed, ◌>>=◌, judged, if_there}
 use Rattle.files.specs.File.{byte_of, groups, number}
-use Rattle.files.specs.Inside.{stopped, in_range}
-use Rattle.files.specs.declared.reading.NumberRead.{NumberRead}
-use Rattle.files.proofs.Following.{told_number, told_good, told-refused}
 
 -- what one bit of the next group stands for, after k groups
 unfoldable pub scale : ℕ → ℕ
@@ -79,15 +76,6 @@ unfolding followed
 raised_more value weight group (said higher at) = ap (λ (v : ℕ). said v at) (weighed value weight group higher)
 raised_more value weight group (refused number offset) = refl
 
--- what the code answers with a number that has ended
-range_told : (start at value : ℕ) → told_number (in_range start at value) ≡ cond (leb value 4_294_967_295) (said value at) (refused 23 start)
-range_told start at value = by (leb value 4_294_967_295)
-  where
-    by : (b : Bool)
-        → told_number (cond b (record { reading = record { refusal = 0; offset = at }; value = value }) (stopped 23 start)) ≡ cond b (said value at) (refused 23 start)
-    by true = told_good value _ refl
-    by false = told-refused 0 _ refl
-
 module _ (bytes : List ℕ) (start : ℕ) where
   -- where a byte is left, its group and those that follow it
   byte_left : (n at : ℕ) → at < length bytes
@@ -150,7 +138,7 @@ module _ (bytes : List ℕ) (start : ℕ) where
   grouping_start = record { few = omega arith; scaled = refl; small = omega arith; rest = raised_none (groups start 5 bytes start) }
 
   -- what is answered, where the groups are known
-  abbrev inside : ℕ → ℕ → Part ℕ
+  abbrev pub inside : ℕ → ℕ → Part ℕ
   inside value at = cond (leb value 4_294_967_295) (said value at) (refused 23 start)
 
   judged-number : (part : Part ℕ) → groups start 5 bytes start ≡ part → number bytes start ≡ followed part inside
@@ -166,10 +154,8 @@ module _ (bytes : List ℕ) (start : ℕ) where
     unfolding followed
     number_longer h = judged-number (refused 23 start) (groups_longer at value weight k w h)
 
-    pub number-end : (byte : ℕ) (r : NumberRead) → k < 5 → at < length bytes → byte ≡ get_or bytes at 0 → byte < 128
-        → r ≡ in_range start (at + 1) (value + byte % 128 * weight) → told_number r ≡ number bytes start
+    -- what is answered where the last group was read
+    pub number-end : (byte : ℕ) → k < 5 → at < length bytes → byte ≡ get_or bytes at 0 → byte < 128
+        → number bytes start ≡ inside (value + byte % 128 * weight) (at + 1)
     unfolding followed
-    number-end byte r h here is last e =
-        ap told_number e
-        ∙ range_told start (at + 1) (value + byte % 128 * weight)
-        ∙ sym (judged-number _ (groups-end at value weight k w byte h here is last))
+    number-end byte h here is last = judged-number _ (groups-end at value weight k w byte h here is last)

@@ -1,14 +1,13 @@
 -- `files::reading::Reading::choice` meets its contract: both ways of the test. Assumes nothing.
-use native.Mathlib.Omega.{arith}
+use Rattle.std.proofs.Common.{refl}
 use borrow.Author.Tests.{lt-ltb, le-ltb}
 use Rattle.files.specs.File.{choice}
-use Rattle.files.proofs.Following.{there, not_there}
 use Rattle.files.proofs.reading.Reading.choice.Goals as goal
 
-pub returns-then-limit-eq0 : goal.returns-then-limit-eq0
+pub returns-then-limit-gt0-clause-said : goal.returns-then-limit-gt0-clause-said
 unfolding choice
-returns-then-limit-eq0 c = not_there _ _ _ _ _ (le-ltb 0 c.args.limit (omega (arith, c.if-limit-eq0.true)))
+returns-then-limit-gt0-clause-said c = rw (lt-ltb _ _ c.if-limit-gt0.true, ← c.from.ensures) c.one_of.ensures.said
 
-pub returns : goal.returns
+pub returns-else-limit-gt0-clause-said : goal.returns-else-limit-gt0-clause-said
 unfolding choice
-returns c = there _ _ _ _ _ _ _ (lt-ltb 0 c.args.limit (omega (arith, c.if-limit-eq0.false))) c.one_of.ensures
+returns-else-limit-gt0-clause-said c = rw (le-ltb _ _ c.if-limit-gt0.false) refl

@@ -1,9 +1,0 @@
--- `files::reading::Reading::eight_if` meets its contract: both ways of the test. Assumes nothing.
-use Rattle.files.proofs.Following.{there, not_there}
-use Rattle.files.proofs.reading.Reading.eight_if.Goals as goal
-
-pub returns-then-has : goal.returns-then-has
-returns-then-has c = there _ _ _ _ _ _ _ c.if-has.true c.eight.ensures
-
-pub returns : goal.returns
-returns c = not_there _ _ _ _ _ c.if-has.false

@@ -1,2 +1,0 @@
--- Laws that the proofs of `files::stage` alone cite.
-mod Known
