@@ -4,8 +4,9 @@
 
 use engine::run::run;
 use magnetron::buffer::BufferIndex;
+use magnetron::lent::Lent;
 use magnetron::pool::Pools;
-use magnetron::prepare::{new_pool, prepare};
+use magnetron::prepare::new_pool;
 use microwave::oscillator::{OscillatorSpec, OscillatorType};
 use microwave::parameter::Parameter;
 use stages::kind::Kind;
@@ -31,58 +32,65 @@ fn sawtooth() -> Stage {
 
 // A sample's 16 hex digits on a line. A NaN has no bits of its own: it is written as the usual quiet one.
 fn write_sample(stdout: Stdout, x: f64) {
-    if x != x {
-        let _ = println!(stdout; "7ff8000000000000");
-        return;
-    }
-    let bits = f64::to_bits(x);
+    let bits = if x.is_nan() {
+        0x7ff8000000000000
+    } else {
+        x.to_bits()
+    };
     let _ = println!(stdout; "{bits:016x}");
 }
 
 // Each sample on a line.
 fn write_samples(stdout: Stdout, samples: &[f64]) {
-    let mut i = 0;
-    while i < samples.len() {
-        write_sample(stdout, samples[i]);
-        i += 1;
+    for &x in samples {
+        write_sample(stdout, x);
     }
 }
 
 // The run, on new pools that were prepared; whether it was accepted. Where a pool or prepare is refused, the run is refused too.
-// The stage has no ring and no slot: what is lent as rings and as values is not looked at.
+// The stage has no ring and no slot: nothing is lent as rings and as values.
 fn render(internal: &mut [f64], none: &mut [f64], zeros: &[f64]) -> bool {
-    let made = new_pool(1, 8, internal);
-    let empty = new_pool(0, 0, none);
-    let inner = made.pool;
-    let outer = empty.pool;
-    let pools = Pools {
-        internal: inner,
-        external: outer,
-        reset: false,
+    let inner = new_pool(1, 8, internal).pool;
+    let outer = new_pool(0, 0, none).pool;
+    let lent = Lent {
+        internal: &*internal,
+        external: &*none,
+        zeros,
+        pools: Pools {
+            internal: inner,
+            external: outer,
+            reset: false,
+        },
+        window: 8,
     };
-    let prepared = prepare(pools, internal, none, zeros, 8);
-    let ready = prepared.pools;
-    let stage = sawtooth();
+    let ready = lent.prepare().pools;
     let patch = Patch {
         count: 1,
-        stages: [stage; 32],
+        stages: [sawtooth(); 32],
     };
-    let order = [0u8; 1];
-    let mut rings = [0.0; 1];
-    let states = new_states();
     let ran = run(
-        patch, &order, ready, states, 8, 0.125, internal, none, zeros, &mut rings, zeros,
+        patch,
+        &[0],
+        ready,
+        new_states(),
+        8,
+        0.125,
+        internal,
+        none,
+        zeros,
+        &mut [],
+        &[],
     );
-    ran.answer.number == 0
+    ran.answer.is_ok()
 }
 
 // The lent samples do not begin as zeros: the new pool is to make them so.
 fn main(rt: HostRuntime) {
     let stdout = rt.stdout();
     let mut internal = [1.0; 8];
-    let mut none = [0.0; 1];
+    let mut none = [0.0; 0];
     let zeros = [0.0; 8];
-    if !render(&mut internal, &mut none[0..0], &zeros) {
+    if !render(&mut internal, &mut none, &zeros) {
         return;
     }
     let _ = println!(stdout; "internal 0 window 8");
