@@ -6,14 +6,13 @@ use Rattle.std.specs.Float.Ieee.{add}
 use Rattle.numbers.specs.Constants.{zero64}
 use Rattle.numbers.specs.Outcome.{Outcome, outcome}
 use Rattle.answers.specs.declared.refusal.Refusal.{Refusal}
-use Rattle.util.specs.declared.reach.Reach.{Reach}
 use Rattle.util.specs.declared.delay_line.Delay.{Delay}
 use Rattle.util.specs.declared.delay_line.Read.{Read}
 use Rattle.util.specs.declared.step.Step.{Step}
 use Rattle.util.specs.declared.soft_clip.SoftClip.{SoftClip}
 use Rattle.util.specs.declared.comb_filter.Comb.{Comb}
 use Rattle.util.specs.declared.answered.Answered.{Answered}
-use Rattle.util.specs.DelayLine.{next_slot, Reading, delayed_by, reading_of, reach_in, in_ring, refused, ring_refusal, answered, unanswered}
+use Rattle.util.specs.DelayLine.{next_slot, Reading, delayed_by, in_ring, refused, Steps, processed}
 use Rattle.util.specs.Interaction.{step, Interaction, LowPassGain, low_pass_gain, soft_clip_of}
 
 -- a comb with its ring
@@ -27,11 +26,11 @@ module _ {R L : Type 0} where
   abbrev pub comb_over : Comb R L → List Float → RingedComb R L
   comb_over c ring = record { ring = ring; position = c.cursor.position; response = c.response; limit = c.limit }
 
-  -- a step as an operation leaves it. 02: "Comb and all-pass hand the answer on."
-  abbrev pub told : Reach → Step (RingedComb R L) → Outcome (Answered (Comb R L)) (List Float)
-  told reach s =
+  -- a step as what it leaves of the comb, and of the ring
+  abbrev pub apart : Step (RingedComb R L) → Outcome (Step (Comb R L)) (List Float)
+  apart s =
       let c = s.next in
-      outcome (answered reach (step (record { cursor = record { position = c.position }; response = c.response; limit = c.limit }) s.sample)) c.ring
+      outcome (step (record { cursor = record { position = c.position }; response = c.response; limit = c.limit }) s.sample) c.ring
 
 module _ {R L : Type 0} (response : Interaction R) (limit : Interaction L) where
   -- "Comb: advance, fb = response(delayed), write limit(fb+x), answer fb."
@@ -42,13 +41,13 @@ module _ {R L : Type 0} (response : Interaction R) (limit : Interaction L) where
       let fed = limit.process s.limit (add binary64 fb.sample x) in
       step (record { ring = slice_set s.ring at fed.sample; position = at; response = fb.next; limit = fed.next }) fb.sample
 
+  abbrev pub comb_on : Steps (Comb R L)
+  comb_on reading c ring x = apart (comb reading (comb_over c ring) x)
+
   -- ---- single operations
 
   unfoldable pub combed : Read → Comb R L → List Float → Float → Outcome (Answered (Comb R L)) (List Float)
-  combed read c ring x =
-      cond (in_ring c.cursor.position (length ring))
-      (told (reach_in read) (comb (reading_of read) (comb_over c ring) x))
-      (outcome (unanswered ring_refusal c) ring)
+  combed read c ring x = processed comb_on c.cursor read c ring x
 
   -- "mute as in util.rs": the ring, the response and the limit; the position stays
   unfoldable pub comb_muted : Comb R L → List Float → Outcome (Result (Comb R L) Refusal) (List Float)

@@ -89,6 +89,16 @@ answered reach s = record { verdict = done; next = s.next; sample = s.sample; re
 abbrev pub unanswered : {S : Type 0} → Refusal → S → Answered S
 unanswered refusal s = record { verdict = Err refusal; next = s; sample = zero64; reach = Within }
 
+-- what a filter over a ring makes of a sample by a reading of the ring, and what it leaves there
+abbrev pub Steps : Type 0 → Type 0
+Steps S = Reading → S → List Float → Float → Outcome (Step S) (List Float)
+
+-- one sample of a filter whose cursor that is. 02: "Comb and all-pass hand the answer on."
+abbrev pub processed : {S : Type 0} → Steps S → Cursor → Read → S → List Float → Float → Outcome (Answered S) (List Float)
+processed steps c read s ring x =
+    let o = steps (reading_of read) s ring x in
+    cond (in_ring c.position (length ring)) (outcome (answered (reach_in read) o.result) o.contents) (outcome (unanswered ring_refusal s) ring)
+
 -- the delay of a ring of that length, and none where there is no such ring
 unfoldable pub delay_at : ℕ → Float → Delay
 delay_at slots f = cond (in_ring 0 slots) (delay_of slots f) (record { whole = 0; rest = zero64; reach = Within })

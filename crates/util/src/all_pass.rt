@@ -1,14 +1,15 @@
 // The all-pass delay over a ring that the host lends.
-ghost use Rattle.std.specs.Prelude.{◌≡◌, length};
+ghost use Rattle.std.specs.Prelude.{◌≡◌};
 ghost use Rattle.numbers.specs.Outcome.{outcome};
 ghost use Rattle.util.specs.declared.delay_line.Read.TheVariants as read;
-ghost use Rattle.util.specs.DelayLine.{reading_of, muted};
+ghost use Rattle.util.specs.DelayLine.{muted};
 ghost use Rattle.util.specs.AllPass.{passed, pass_on, fed_back};
 
 use crate::answered::Answered;
 use crate::delay_line::{Cursor, Read};
 use crate::place::Place;
 use crate::reading::Reading;
+use crate::ring_filter::RingFilter;
 use crate::step::Step;
 use answers::refusal::Verdict;
 
@@ -28,6 +29,7 @@ impl AllPassDelay {
     }
 
     // At the whole delay.
+    #[tactic(auto, unfolding(crate::specs::AllPass::passed))]
     pub fn process_sample(self, ring: &mut [f64], input: f64) -> Answered<AllPassDelay>
         ensures { outcome result ring.new ≡ passed read.Whole self ring.old input }
     {
@@ -35,6 +37,7 @@ impl AllPassDelay {
     }
 
     // At the delay of a fraction of the ring's length.
+    #[tactic(auto, unfolding(crate::specs::AllPass::passed))]
     pub fn process_sample_fract(
         self,
         ring: &mut [f64],
@@ -52,24 +55,26 @@ impl AllPassDelay {
     {
         self.cursor.mute(ring)
     }
+}
 
-    #[tactic(auto, unfolding(crate::specs::AllPass::passed))]
-    fn process(self, ring: &mut [f64], read: Read, input: f64) -> Answered<AllPassDelay>
-        ensures { outcome result ring.new ≡ passed read self ring.old input }
-    {
-        match Place::of(self.cursor.position, ring.len()) {
-            Ok(place) => Answered::of(self.step(ring, place, read, input), read.reach()),
-            Err(refusal) => Answered::refused(refusal, self),
-        }
+impl RingFilter for AllPassDelay {
+    ghost stands = { λ a. a.cursor };
+
+    ghost steps = { pass_on };
+
+    fn cursor(self) -> Cursor {
+        self.cursor
     }
 
-    // One sample, at the place of the cursor.
-    fn step(mut self, ring: &mut [f64], place: Place, read: Read, input: f64) -> Step<AllPassDelay>
-        requires { (place.position ≡ self.cursor.position) × (place.slots ≡ length ring.old) }
-        ensures { outcome result ring.new ≡ pass_on (reading_of read) self ring.old input }
-    {
+    fn step<D: Reading>(
+        mut self,
+        ring: &mut [f64],
+        place: Place,
+        reading: D,
+        input: f64,
+    ) -> Step<AllPassDelay> {
         let at = place.after();
-        let delayed = read.read(ring, at);
+        let delayed = reading.read(ring, at);
         let remembered = input + self.feedback * delayed;
         ring[at.position] = remembered;
         self.cursor.position = at.position;

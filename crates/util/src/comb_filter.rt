@@ -4,13 +4,14 @@ ghost use Rattle.numbers.specs.Outcome.{outcome};
 ghost use Rattle.util.specs.declared.delay_line.Read.TheVariants as read;
 ghost use Rattle.util.specs.DelayLine.{delayed_by};
 ghost use Rattle.util.specs.Interaction.{step};
-ghost use Rattle.util.specs.Comb.{comb, comb_over, combed, comb_muted};
+ghost use Rattle.util.specs.Comb.{comb, comb_over, comb_on, combed, comb_muted};
 
 use crate::answered::Answered;
 use crate::delay_line::{Cursor, Delay, Read};
 use crate::interaction::{AnyInteraction, Interaction, LowPassGain};
 use crate::place::Place;
 use crate::reading::Reading;
+use crate::ring_filter::RingFilter;
 use crate::soft_clip::SoftClip;
 use crate::step::Step;
 use answers::refusal::Refusal;
@@ -31,6 +32,7 @@ pub type TunedComb = Comb<LowPassGain, SoftClip>;
 
 impl<R: Interaction, L: Interaction> Comb<R, L> {
     // At the whole delay.
+    #[tactic(auto, unfolding(crate::specs::Comb::combed))]
     pub fn process_sample(self, ring: &mut [f64], input: f64) -> Answered<Comb<R, L>>
         ensures { outcome result ring.new ≡ combed R.means L.means read.Whole self ring.old input }
     {
@@ -38,6 +40,7 @@ impl<R: Interaction, L: Interaction> Comb<R, L> {
     }
 
     // At the delay of a fraction of the ring's length.
+    #[tactic(auto, unfolding(crate::specs::Comb::combed))]
     pub fn process_sample_fract(
         self,
         ring: &mut [f64],
@@ -71,18 +74,17 @@ impl<R: Interaction, L: Interaction> Comb<R, L> {
         self.limit = self.limit.mute();
         Ok(self)
     }
+}
 
-    #[tactic(auto, unfolding(crate::specs::Comb::combed))]
-    fn process(self, ring: &mut [f64], read: Read, input: f64) -> Answered<Comb<R, L>>
-        ensures { outcome result ring.new ≡ combed R.means L.means read self ring.old input }
-    {
-        match Place::of(self.cursor.position, ring.len()) {
-            Ok(place) => Answered::of(self.step(ring, place, read, input), read.reach()),
-            Err(refusal) => Answered::refused(refusal, self),
-        }
+impl<R: Interaction, L: Interaction> RingFilter for Comb<R, L> {
+    ghost stands = { λ c. c.cursor };
+
+    ghost steps = { comb_on R.means L.means };
+
+    fn cursor(self) -> Cursor {
+        self.cursor
     }
 
-    // One sample, at the place of the cursor and at any reading of the ring.
     #[tactic(auto, unfolding(crate::specs::Comb::comb))]
     fn step<D: Reading>(
         self,
@@ -90,10 +92,7 @@ impl<R: Interaction, L: Interaction> Comb<R, L> {
         place: Place,
         reading: D,
         input: f64,
-    ) -> Step<Comb<R, L>>
-        requires { (place.position ≡ self.cursor.position) × (place.slots ≡ length ring.old) × D.fits reading place.slots }
-        ensures { step (comb_over result.next ring.new) result.sample ≡ comb R.means L.means (D.reads reading) (comb_over self ring.old) input }
-    {
+    ) -> Step<Comb<R, L>> {
         let at = place.after();
         let delayed = reading.read(ring, at);
         let responded = self.response.process_sample(delayed);

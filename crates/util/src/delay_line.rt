@@ -28,6 +28,7 @@ pub struct Delay {
 }
 
 // How a ring is read: at the whole delay, or at a fraction of its length.
+// Stays: the definitions `reading_of`, `tapped`, `combed` and `passed`, and the listed case `ring_read`, name both cases, where a None would say nothing.
 #[derive(Clone, Copy)]
 pub enum Read {
     Whole,

@@ -11,5 +11,6 @@ pub mod low_pass;
 mod place;
 pub mod reach;
 mod reading;
+mod ring_filter;
 pub mod soft_clip;
 pub mod step;
