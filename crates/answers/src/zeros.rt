@@ -6,9 +6,5 @@ ghost use Rattle.numbers.specs.Constants.{zero64};
 pub fn fill_with_zeros(samples: &mut [f64])
     ensures { samples.new ≡ replicate (length samples.old) zero64 }
 {
-    let mut i = 0;
-    while i < samples.len() {
-        samples[i] = 0.0;
-        i += 1;
-    }
+    samples.fill(0.0);
 }
