@@ -34,7 +34,6 @@ use Rattle.magnetron.specs.declared.pool.Pools.{Pools}
 use Rattle.magnetron.proofs.Writes.{unseen}
 use Rattle.util.specs.declared.reach.Reach.{Reach}
 use Rattle.stages.specs.declared.state.State.{State}
-use Rattle.stages.specs.declared.patch.Starts.{Starts}
 use Rattle.stages.specs.Stage.{Own, own, ring_fine}
 use Rattle.stages.specs.Rings.{no_state, len_in, ring_at, fine_in}
 use Rattle.stages.specs.Reach.{all_within}
@@ -107,7 +106,7 @@ module _ {P : Plan} {k : ℕ} {ks : List ℕ} {w : World} (ok : Passed P (k ∷ 
   pub stage-there : k < P.patch.count
   stage-there = ltb-true _ _ (and_left (ltb k P.patch.count) _ ok.admitted.below)
 
-  pub started : {starts : Starts} → starts ≡ starts_of P.patch → get_or starts.at k 0 ≡ ring_at P.patch k
+  pub started : {starts : List ℕ} → starts ≡ starts_of P.patch → get_or starts k 0 ≡ ring_at P.patch k
   started e = rw e (starts_at P.patch k stage-there)
 
   pub ring-lies : ring_at P.patch k + len_in P.patch k ≤ length w.rings

@@ -66,7 +66,7 @@ fn check_entry(records: &Records, lent: &Lent) -> Verdict
     pools.check_prepare()?;
     refusal_unless(order_ok(lent.order, records.patch.count), Reason::Order)?;
     refusal_unless(
-        records.patch.rings_ok(records.states, lent.rings.len()),
+        records.patch.rings_ok(&records.states, lent.rings.len()),
         Reason::Ring,
     )
 }

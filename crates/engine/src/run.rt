@@ -50,7 +50,7 @@ fn run_order(
     for x in order {
         let k = *x as usize;
         let stage = records.patch.stages[k];
-        let at = starts.at[k];
+        let at = starts[k];
         let ring = &mut rings[at..at + stage.ring_len()];
         let turn = Turn {
             stage,

@@ -9,9 +9,8 @@ use lib.Ieee.{Float}
 use Rattle.order.specs.Order.{runs}
 use Rattle.answers.specs.declared.refusal.Refusal.{Refusal}
 use Rattle.magnetron.specs.Signals.{state_at}
-use Rattle.microwave.specs.Filter.{machine_of, with_numbers}
-use Rattle.microwave.specs.declared.filter.FilterType.{FilterType}
-use Rattle.microwave.specs.declared.filter.FilterType.TheVariants as filter
+use Rattle.microwave.specs.Filter.{FilterType, machine_of, with_numbers}
+use Rattle.microwave.specs.declared.filter.Filter.TheVariants as filter
 use Rattle.microwave.specs.declared.parameter.Numbers.{Numbers}
 use Rattle.stages.specs.declared.machine.Machine.{Machine}
 use Rattle.stages.specs.declared.machine.Machine.TheVariants as machine

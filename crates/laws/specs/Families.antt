@@ -1,8 +1,8 @@
 -- What a kind of stage remembers by: "A stage's state record has room for every kind". Kinds that remember by the same numbers share a part of it: five biquads one,
 -- two one-poles another, two oscillators a third. That "a run changes only its own kind's part", `proofs/OwnPart.antt` says. Definitions only. Assumes nothing.
 use Rattle.std.specs.Prelude.{◌≡◌}
-use Rattle.microwave.specs.declared.filter.FilterType.{FilterType}
-use Rattle.microwave.specs.declared.filter.FilterType.TheVariants as filter
+use Rattle.microwave.specs.declared.filter.Filter.TheVariants as filter
+use Rattle.microwave.specs.Filter.{FilterType}
 use Rattle.stages.specs.declared.kind.Kind.{Kind}
 use Rattle.stages.specs.declared.kind.Kind.TheVariants.{Pass, Pow3, Clip, Filter, Oscillator, ModOscillator, Waveguide, RingModulator, Pan}
 use Rattle.stages.specs.declared.state.State.{State}

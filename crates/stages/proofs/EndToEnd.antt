@@ -97,7 +97,7 @@ module _ (f : ℕ → ℕ) where
   summed_more n k end len s h e b = record { upto = omega arith; sum = rw (add-one, s.sum, e) refl; small = omega arith }
 
 -- a ring's start, in the list of all of them
-pub starts_at : (patch : Patch) (k : ℕ) → k < patch.count → get_or (starts_of patch).at k 0 ≡ ring_at patch k
+pub starts_at : (patch : Patch) (k : ℕ) → k < patch.count → get_or (starts_of patch) k 0 ≡ ring_at patch k
 unfolding window
 starts_at patch k h = get_or-append (tab patch.count (ring_at patch)) _ 0 k (rw tab-length h) ∙ tab-at patch.count (ring_at patch) k 0 h
 

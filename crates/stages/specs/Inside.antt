@@ -8,7 +8,6 @@ use Rattle.util.specs.declared.reach.Reach.{Reach}
 use Rattle.util.specs.declared.reach.Reach.TheVariants.{Within}
 use Rattle.microwave.specs.Waveguide.{InRing}
 use Rattle.stages.specs.declared.patch.Patch.{Patch}
-use Rattle.stages.specs.declared.patch.Starts.{Starts}
 use Rattle.stages.specs.declared.machine.Sources.{Sources}
 use Rattle.stages.specs.declared.machine.Machine.{Machine}
 use Rattle.stages.specs.declared.machine.Machine.TheVariants as machine
@@ -23,8 +22,8 @@ pub record Bounded (patch : Patch) : Type 0 where
   pub each : (k : ℕ) → k < patch.count → len_in patch k ≤ 32768
 
 -- where each ring begins, by stage number; 0 where there is no stage
-abbrev pub starts_of : Patch → Starts
-starts_of patch = record { at = window (replicate 32 0) 0 patch.count (ring_at patch) }
+abbrev pub starts_of : Patch → List ℕ
+starts_of patch = window (replicate 32 0) 0 patch.count (ring_at patch)
 
 -- ---- a machine over a window
 

@@ -10,8 +10,6 @@ use Rattle.microwave.specs.declared.parameter.Parameter.{Parameter}
 use Rattle.microwave.specs.declared.parameter.Ask.{Ask}
 use Rattle.microwave.specs.declared.parameter.Numbers.{Numbers}
 use Rattle.microwave.specs.declared.oscillator.Phases.{Phases}
-use Rattle.microwave.specs.declared.oscillator.Driven.{Driven}
-use Rattle.microwave.specs.declared.oscillator.Driven.TheVariants as driven
 use Rattle.microwave.specs.declared.oscillator.OscillatorSpec.{OscillatorSpec}
 use Rattle.microwave.specs.declared.filter.OnePoleMemory.{OnePoleMemory}
 use Rattle.microwave.specs.declared.filter.Biquad.{Biquad}
@@ -24,7 +22,7 @@ use Rattle.microwave.specs.Parameter.{required, or_zero, or_one, of_pair}
 use Rattle.microwave.specs.OnePole.{one_pole_next, one_pole_out}
 use Rattle.microwave.specs.Filter.{filter_asks, with_numbers, machine_of, biquad_next, biquad_out}
 use Rattle.microwave.specs.Oscillator as oscillators
-use Rattle.microwave.specs.Oscillator.{driven_by, d_phase_of, oscillator_next, oscillator_out}
+use Rattle.microwave.specs.Oscillator.{Driven, d_phase_of, oscillator_next, oscillator_out}
 use Rattle.microwave.specs.Plain.{clip_limit, shaped_of, gained}
 use Rattle.microwave.specs.Waveguide.{Strung, strung, guide_of, string_next, string_out}
 use Rattle.stages.specs.declared.kind.Kind.{Kind}
@@ -177,8 +175,8 @@ settled (Pass a) q window s = machine.Plain shape.Pass
 settled (Pow3 a) q window s = machine.Plain shape.Pow3
 settled (Clip a limit) q window s = machine.Plain (shape.Clip (clip_limit q.first))
 settled (Filter a f) q window s = filter_machine (machine_of (with_numbers f q.first q.second) window.sample_width_secs)
-settled (Oscillator o) q window s = oscillator_machine o driven.Plain q window s
-settled (ModOscillator a o m) q window s = oscillator_machine o (driven_by m) q window s
+settled (Oscillator o) q window s = oscillator_machine o None q window s
+settled (ModOscillator a o m) q window s = oscillator_machine o (Some m) q window s
 settled (Waveguide a g) q window s = waveguide_machine g q window
 settled (RingModulator a b) q window s = machine.Plain shape.RingModulator
 settled (Pan a gain right) q window s = machine.Gain q.first

@@ -12,7 +12,7 @@ use crate::window::RenderWindow;
 use magnetron::buffer::BufferIndex;
 use magnetron::inputs::Inputs;
 use microwave::filter::{FilterMachine, FilterType};
-use microwave::oscillator::{Driven, Modulation, Oscillator, OscillatorSpec};
+use microwave::oscillator::{Modulation, Oscillator, OscillatorSpec};
 use microwave::parameter::{Ask, Asks, Numbers, Parameter, numbers_found, or_zero, required};
 use microwave::plain::Shape;
 use microwave::waveguide::WaveguideSpec;
@@ -101,7 +101,7 @@ fn filter_machine(filter: FilterType, numbers: Numbers, window: RenderWindow) ->
 
 fn oscillator_machine(
     oscillator: OscillatorSpec,
-    driven: Driven,
+    driven: Option<Modulation>,
     numbers: Numbers,
     window: RenderWindow,
     state: State,
@@ -227,13 +227,13 @@ impl Kind {
             }),
             Kind::Filter { filter, .. } => filter_machine(filter, numbers, window),
             Kind::Oscillator { oscillator } => {
-                oscillator_machine(oscillator, Driven::Plain, numbers, window, state)
+                oscillator_machine(oscillator, None, numbers, window, state)
             }
             Kind::ModOscillator {
                 oscillator,
                 modulation,
                 ..
-            } => oscillator_machine(oscillator, modulation.driven(), numbers, window, state),
+            } => oscillator_machine(oscillator, Some(modulation), numbers, window, state),
             Kind::Waveguide { waveguide, .. } => waveguide_machine(waveguide, numbers, window),
             Kind::RingModulator { .. } => Machine::Plain(Shape::RingModulator),
             Kind::Pan { .. } => Machine::Gain(numbers.first),

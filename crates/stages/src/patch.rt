@@ -7,16 +7,11 @@ use crate::stage::Stage;
 use crate::state::States;
 
 // At most 32 stages; those from `count` on are not there.
+// Stays: no heap and fixed memory (a rule of the project), so the stages are an array with their count; `there` lends those that are there.
 #[derive(Clone, Copy)]
 pub struct Patch {
     pub count: usize,
     pub stages: [Stage; 32],
-}
-
-// Where the rings of the stages begin, by stage number.
-#[derive(Clone, Copy)]
-pub struct Starts {
-    pub at: [usize; 32],
 }
 
 impl Patch {
@@ -30,9 +25,9 @@ impl Patch {
     }
 
     // Check 4: every ring of the patch, and room for all of them.
-    pub fn rings_ok(self, states: States, room: usize) -> bool
-        requires { self.count ≤ 32 }
-        ensures { result ≡ rings_ok self states.stages room }
+    pub fn rings_ok(&self, states: &States, room: usize) -> bool
+        requires { self.now.count ≤ 32 }
+        ensures { result ≡ rings_ok self.now states.now.stages room }
     {
         let mut end = 0;
         for (k, stage) in self.there().iter().enumerate() {
@@ -44,10 +39,10 @@ impl Patch {
         end <= room
     }
 
-    // Where each stage's ring begins: after those of all stages before it.
-    pub fn ring_starts(self) -> Starts
-        requires { Bounded self }
-        ensures { result ≡ starts_of self }
+    // Where each stage's ring begins, by stage number: after those of all stages before it.
+    pub fn ring_starts(&self) -> [usize; 32]
+        requires { Bounded self.now }
+        ensures { result ≡ starts_of self.now }
     {
         let mut at = [0; 32];
         let mut end = 0;
@@ -55,6 +50,6 @@ impl Patch {
             at[k] = end;
             end += stage.ring_len();
         }
-        Starts { at }
+        at
     }
 }

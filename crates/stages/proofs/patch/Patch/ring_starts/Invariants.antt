@@ -6,4 +6,4 @@ use Rattle.stages.proofs.EndToEnd.{Summed}
 use Rattle.stages.proofs.patch.Patch.ring_starts.Given as goal
 
 abbrev pub invariant-loop-k : goal.invariant-loop-k
-invariant-loop-k l = (Summed (len_in l.fn.self) l.fn.self.count l.k l.end) × (l.at ≡ window (replicate 32 0) 0 l.k (ring_at l.fn.self))
+invariant-loop-k l = (Summed (len_in l.self) l.self.count l.k l.end) × (l.at ≡ window (replicate 32 0) 0 l.k (ring_at l.self))

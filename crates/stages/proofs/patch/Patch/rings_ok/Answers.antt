@@ -11,15 +11,15 @@ pub returns-then-not-ring_fine : goal.returns-then-not-ring_fine
 unfolding rings_ok
 returns-then-not-ring_fine c =
     let t = c.there-stage-items.ensures in
-    let e = rw (there-at c.args.self t.stages t.count _ c.loop-k-test.true) at c.ring_fine.ensures in
-    rw (all_fails (fine_in c.args.self c.args.states.stages) c.args.self.count c.loop-k.k (omega (arith, t.count, c.loop-k-test.true)) (fails e c.if-not-ring_fine.true))
+    let e = rw (there-at c.args.self.now t.stages t.count _ c.loop-k-test.true) at c.ring_fine.ensures in
+    rw (all_fails (fine_in c.args.self.now c.args.states.now.stages) c.args.self.now.count c.loop-k.k (omega (arith, t.count, c.loop-k-test.true)) (fails e c.if-not-ring_fine.true))
 
 pub loop-k-preserved : goal.loop-k-preserved
 loop-k-preserved c =
     let t = c.there-stage-items.ensures in
-    let here = there-at c.args.self t.stages t.count _ c.loop-k-test.true in
+    let here = there-at c.args.self.now t.stages t.count _ c.loop-k-test.true in
     let fine = holds (rw here at c.ring_fine.ensures) c.if-not-ring_fine.false in (
-      summed_more _ _ _ _ _ c.loop-k.invariant.0 (omega (arith, t.count, c.loop-k-test.true)) (rw here at c.ring_len-end.ensures) (fine-at c.args.self c.args.states.stages c.loop-k.k fine),
+      summed_more _ _ _ _ _ c.loop-k.invariant.0 (omega (arith, t.count, c.loop-k-test.true)) (rw here at c.ring_len-end.ensures) (fine-at c.args.self.now c.args.states.now.stages c.loop-k.k fine),
       all_more _ _ c.loop-k.invariant.1 fine,
     )
 

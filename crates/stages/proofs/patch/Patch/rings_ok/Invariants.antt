@@ -5,4 +5,4 @@ use Rattle.stages.proofs.EndToEnd.{Summed}
 use Rattle.stages.proofs.patch.Patch.rings_ok.Given as goal
 
 abbrev pub invariant-loop-k : goal.invariant-loop-k
-invariant-loop-k l = (Summed (len_in l.fn.self) l.fn.self.count l.k l.end) × (all_to l.k (fine_in l.fn.self l.fn.states.stages) ≡ true)
+invariant-loop-k l = (Summed (len_in l.self) l.self.count l.k l.end) × (all_to l.k (fine_in l.self l.states.stages) ≡ true)
