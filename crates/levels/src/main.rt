@@ -27,6 +27,7 @@ impl From<Refused> for Failure {
 }
 
 // Reads until the bytes are full or the input ends, and says how many came.
+// Stays: the count goes up by what each read brings, and not by one; the library's `read_exact` would not say how many bytes came before an end.
 fn fill(mut stdin: Stdin, bytes: &mut [u8]) -> io::Result<usize>
     ensures { IfOk result (λ count. count ≤ length bytes.new) }
 {

@@ -17,6 +17,7 @@ pub enum Sign {
 }
 
 // The sign of a sample that has one, by its bits.
+// Stays: a function with a `requires`, which `From` cannot have; one that also told of zeros and NaNs would ask again what `with_sample` has asked.
 pub(crate) fn sign_of(bits: u64) -> Sign
     requires { (0 < magnitude bits) × (magnitude bits ≤ infinity) }
     ensures { result ≡ sign_of bits }
