@@ -1,5 +1,5 @@
 -- Each exported function's contract determines what is seen of a call: its result, and every slice and record that it is lent to change. `Reads.Post`, which
--- Rattle makes of a function's `ensures`, is the contract itself: no copy of it is written here, but for that of the lent cursor, which `util` has. Assumes nothing.
+-- Rattle makes of a function's `ensures`, is the contract itself: no copy of it is written here, but for that of the lent cursor. Assumes nothing.
 use mathlib.Core.Path.{◌≡◌, refl}
 use Prim.Native.Nat.{ℕ}
 use seplogic.Ra.Ura.{Ura}
@@ -11,10 +11,11 @@ use contract.Monad.{Fun, fact}
 use contract.Lifetimes.{Lfts}
 use denote.MutBor.{MutBor}
 use Rattle.numbers.specs.Outcome.{Answer, Determined, by_definition, outcome}
-use Rattle.answers.specs.declared.verdict.Verdict.{Verdict}
+use Rattle.answers.specs.declared.refusal.Told.{Told}
+use Rattle.answers.specs.Refusal.{told_of}
 use Rattle.util.specs.declared.delay_line.Cursor.{Cursor}
-use Rattle.util.proofs.Determined.{Lent, lent_determined}
-use Rattle.host.specs.Host.{flat_after_write, flat_after}
+use Rattle.util.specs.DelayLine.{advanced_there}
+use Rattle.host.specs.Host.{crossed, flat_after_write, flat_after}
 use Rattle.host.specs.contracts.cursor.grynnadot_advance as advance
 use Rattle.host.proofs.file.grynnadot_read_patch.Reads as read-patch
 use Rattle.host.proofs.pools.grynnadot_new_pool.Reads as new-pool
@@ -42,10 +43,13 @@ states_determined = by_definition
 pub run_determined : Determined (λ r s. flat_after r s.1.1.1.1.1.1.0.now s.1.1.1.1.1.1.1.0.now s.1.1.1.1.1.1.1.1.1.0.now) run.Post
 run_determined = by_definition
 
--- ---- of a lent cursor: its `ensures` is that of `advance_lent`, which util says is determined
-pub cursor_is : {M : Type 1} {𝓤 : Ura M} (𝓛 : Logic 𝓤) (at_mem : Memory → SProp 𝓤) (run : Routine → Fun 𝓤) (κs : Lfts 1) (c c' : MutBor Cursor) (n : ℕ) (r : Verdict)
+-- ---- of a lent cursor: the contract over what was lent and what stands there then; `cursor_is` says by `refl` that what is written here is its `ensures`
+abbrev pub Lent : MutBor Cursor × ℕ → Told → MutBor Cursor → Type 0
+Lent a r c = outcome r c.now ≡ crossed told_of (advanced_there a.0.now a.1)
+
+pub cursor_is : {M : Type 1} {𝓤 : Ura M} (𝓛 : Logic 𝓤) (at_mem : Memory → SProp 𝓤) (run : Routine → Fun 𝓤) (κs : Lfts 1) (c c' : MutBor Cursor) (n : ℕ) (r : Told)
     → advance.ensures-1 𝓛 κs at_mem run c n (record { entry = c; exit = c' }) (record { entry = n; exit = n }) r ≡ fact 𝓤 (Lent (c, n) r c')
 cursor_is 𝓛 at_mem run κs c c' n r = refl
 
 pub cursor_determined : Determined (λ r s. outcome r s.now) (λ (κs : Lfts 1). Lent)
-cursor_determined = lent_determined
+cursor_determined = by_definition

@@ -5,20 +5,37 @@ ghost use Rattle.engine.specs.Run.{given};
 ghost use Rattle.flat.specs.Patch.{patch_of};
 ghost use Rattle.host.specs.Host.{answer_of, ran_of, unknown_ran, flat_after, flat_run_of};
 
-use answers::answer::Answer;
-use engine::run::Ran;
+use answers::activity::StageActivity;
+use answers::refusal::{Answer, Told, activity_of};
+use engine::run::{Ran, run};
+use files::fault::FaultReason;
 use flat::patch::{FlatPatch, patch_of};
 use flat::reach::reach_numbers;
 use magnetron::pool::Pools;
 use stages::state::States;
+use util::reach::Reach;
 
 // 0 with stage 32, or a refusal's number with its stage; the activity from 0: Exhausted, Internal, External, Observer.
+// Stays: the C interface, grynnadot_answer, has the number of a refusal beside the activity.
 #[repr(C)]
 #[derive(Clone, Copy)]
 pub struct FlatAnswer {
     pub number: usize,
     pub stage: usize,
     pub activity: u8,
+}
+
+impl From<Answer> for FlatAnswer {
+    ghost from_gives = { λ answer flat. flat ≡ answer_of answer };
+
+    fn from(answer: Answer) -> FlatAnswer {
+        let told = Told::of(answer);
+        FlatAnswer {
+            number: told.number,
+            stage: told.stage,
+            activity: activity_of(answer).into(),
+        }
+    }
 }
 
 // What a run answers, with the records for the next one, and by stage number whether each string reached its note.
@@ -31,46 +48,32 @@ pub struct FlatRan {
     pub reach: [u8; 32],
 }
 
-pub(crate) fn answer_of(answer: Answer) -> FlatAnswer
-    ensures { result ≡ answer_of answer }
-{
-    let activity = answer.activity;
-    FlatAnswer {
-        number: answer.number,
-        stage: answer.stage,
-        activity: answers::activity::rank(activity),
+impl From<Ran> for FlatRan {
+    ghost from_gives = { λ ran flat. flat ≡ ran_of ran };
+
+    fn from(ran: Ran) -> FlatRan {
+        FlatRan {
+            answer: ran.answer.into(),
+            pools: ran.pools,
+            states: ran.states,
+            reach: reach_numbers(ran.reaches),
+        }
     }
 }
 
-fn ran_of(ran: Ran) -> FlatRan
-    ensures { result ≡ ran_of ran }
-{
-    let answer = ran.answer;
-    let pools = ran.pools;
-    let states = ran.states;
-    let reaches = ran.reaches;
-    FlatRan {
-        answer: answer_of(answer),
-        pools,
-        states,
-        reach: reach_numbers(reaches),
-    }
-}
-
-// The refusal of a stage whose numbers name none. 01 has no number for it, since its patch is made of enums; patch files give 22 too.
+// The refusal of a stage whose numbers name none. 01 has no number for it, since its patch is made of enums; it is that of patch files, 22.
 fn unknown_ran(stage: usize, pools: Pools, states: States) -> FlatRan
     ensures { result ≡ unknown_ran stage pools states }
 {
-    let answer = FlatAnswer {
-        number: 22,
-        stage,
-        activity: 0,
-    };
     FlatRan {
-        answer,
+        answer: FlatAnswer {
+            number: FaultReason::Unknown.into(),
+            stage,
+            activity: StageActivity::Exhausted.into(),
+        },
         pools,
         states,
-        reach: [0u8; 32],
+        reach: [Reach::Within.into(); 32],
     }
 }
 
@@ -83,6 +86,8 @@ pub extern "C" fn grynnadot_new_states() -> States
 }
 
 // A run of n samples, each `width` seconds wide. Where a stage's numbers name none, 22 and that stage. A refusal changes nothing.
+// Stays: the C interface, grynnadot_run, takes what is lent one by one.
+#[tactic(auto, unfolding(crate::specs::Host::flat_run_of))]
 #[unsafe(no_mangle)]
 pub extern "C" fn grynnadot_run(
     patch: FlatPatch,
@@ -101,12 +106,11 @@ pub extern "C" fn grynnadot_run(
         ≡ flat_run_of patch (given (patch_of patch) pools states n width internal.old external.old zeros.now rings.old values.now)
         order.now }
 {
-    let named = patch_of(patch);
-    if named.unknown != 32 {
-        return unknown_ran(named.unknown, pools, states);
+    match patch_of(patch) {
+        Err(unknown) => unknown_ran(unknown.stage, pools, states),
+        Ok(known) => run(
+            known, order, pools, states, n, width, internal, external, zeros, rings, values,
+        )
+        .into(),
     }
-    let known = named.patch;
-    ran_of(engine::run::run(
-        known, order, pools, states, n, width, internal, external, zeros, rings, values,
-    ))
 }
