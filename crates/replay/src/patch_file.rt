@@ -1,63 +1,41 @@
 // Sort 10: a patch file. Rests on `files` for what its bytes say, and on `loans` for the words of a patch.
-ghost use Rattle.std.specs.Prelude.{◌≤◌};
-
-use files::patch::{ReadPatch, read_patch};
+use files::fault::Fault;
+use files::patch::read_patch;
+use flat::patch::FlatPatch;
 use loans::flat_words::write_patch;
-use stream::place::{Buffer, Place};
+use stream::place::{Buffer, Place, ROOM};
 use words::writer::put;
 
-// How many bytes a file has at the most.
-const LONGEST: u64 = 65536;
-
-// A case, from the word after its sort on.
-pub(crate) fn answer(
-    start: Place,
-    input: &mut Buffer,
-    output: &mut Buffer,
-    file: &mut Buffer,
-) -> Place {
-    let next = start.next_up_to(input, LONGEST);
-    let length = next.word as usize;
-    let place = gather(next.place, length, input, file);
-    if place.over {
-        return place;
+// A case, from the word after its sort on. A file has as many bytes as a buffer at the most.
+pub(crate) fn answer(place: &mut Place) {
+    let mut file = [0; ROOM];
+    let length = place.next_up_to(ROOM as u64) as usize;
+    gather(place, &mut file, length);
+    if place.is_over() {
+        return;
     }
-    write_answer(place, read_file(file, length), output)
+    write_answer(place, read_patch(&file[..length]));
 }
 
 // The file's bytes, eight to a word. The buffer's length is a whole number of words, so none of them finds it full. What is left of the last
 // word is gathered too; the reader is not lent it.
-fn gather(start: Place, length: usize, input: &mut Buffer, file: &mut Buffer) -> Place
-    requires { length ≤ 65536 }
-{
-    let mut place = start;
-    let mut at = 0;
-    while at < length {
-        let next = place.next(input);
-        put(file, at, next.word);
-        place = next.place;
-        at += 8;
+fn gather(place: &mut Place, file: &mut Buffer, length: usize) {
+    for at in (0..length).step_by(8) {
+        put(file, at, place.next());
     }
-    place
-}
-
-// What the first bytes of the gathered ones say, as many as the file has.
-fn read_file(file: &Buffer, length: usize) -> ReadPatch
-    requires { length ≤ 65536 }
-{
-    // As a slice: only of that does the check know the length.
-    let bytes: &[u8] = file;
-    read_patch(&bytes[0..length])
 }
 
 // Number and offset, and the patch where there is one.
-fn write_answer(start: Place, read: ReadPatch, output: &mut Buffer) -> Place {
-    let told = start
-        .write(output, read.number as u64)
-        .write(output, read.offset as u64);
-    if read.number != 0 {
-        return told;
+fn write_answer(place: &mut Place, read: Result<FlatPatch, Fault>) {
+    match read {
+        Ok(patch) => {
+            place.write(0);
+            place.write(0);
+            write_patch(place, patch);
+        }
+        Err(fault) => {
+            place.write(usize::from(fault.reason) as u64);
+            place.write(fault.offset as u64);
+        }
     }
-    let patch = read.patch;
-    write_patch(told, patch, output)
 }

@@ -1,5 +1,0 @@
--- `replay::answer_all` is safe and ends: its turns are counted down. Assumes nothing.
-use Rattle.replay.proofs.answer_all.Given as goal
-
-abbrev pub decreases-loop-turns : goal.decreases-loop-turns
-decreases-loop-turns l = l.turns
