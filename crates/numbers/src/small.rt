@@ -1,6 +1,5 @@
 // The small functions of f64: maximum and minimum, signs, and the whole part with what it leaves.
-// Stays: the library's functions of these names are not used, since document 01 ("Forms that stand in the way") has abs, copysign, max, min, ceil
-// and fract worked out here, and says which of two equal numbers is the greater.
+// Stays: the library's functions of these names go unused, since document 01 ("Forms that stand in the way") has abs, copysign, max, min, ceil and fract worked out here.
 ghost use Rattle.std.specs.Prelude.{◌≡◌, ◌&&◌};
 ghost use Rattle.std.specs.Float.{binary64};
 ghost use Rattle.std.specs.Float.Ieee.{rem, lt, le};
