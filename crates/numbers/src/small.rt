@@ -12,6 +12,7 @@ use std::num::{nearest_u64_to_f64, truncating_f64_to_u64};
 pub const LIMIT: f64 = 9007199254740992.0;
 
 // If one is NaN, the other; if equal, the first.
+#[tactic(auto, unfolding(crate::specs::Small::max_of))]
 pub fn maximum(x: f64, y: f64) -> f64
     ensures { result ≡ max_of x y }
 {
@@ -20,6 +21,7 @@ pub fn maximum(x: f64, y: f64) -> f64
 
 // If one is NaN, the other; if equal, the first.
 // Stays: a second function, since one for both would be told by a closure which of two comes first, and say no more than this line does.
+#[tactic(auto, unfolding(crate::specs::Small::min_of))]
 pub fn minimum(x: f64, y: f64) -> f64
     ensures { result ≡ min_of x y }
 {
@@ -48,6 +50,7 @@ pub fn absolute(x: f64) -> f64
 }
 
 // The magnitude of x with the sign of y.
+#[tactic(auto, unfolding(crate::specs::Small::copysign_of))]
 pub fn copysign(x: f64, y: f64) -> f64
     ensures { result ≡ copysign_of x y }
 {
@@ -106,6 +109,7 @@ fn remainder_one(x: f64) -> f64
 }
 
 // x % 1.0, plus 1.0 if that is below 0.
+#[tactic(auto, unfolding(crate::specs::Small::rem_euclid_of))]
 fn wrapped(x: f64) -> f64
     ensures { result ≡ rem_euclid_of x }
 {
