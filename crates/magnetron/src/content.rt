@@ -33,6 +33,7 @@ fn sample(own: &[f64], other: &[f64], content: Content, i: usize) -> f64
 }
 
 // The product of two blocks, first times second.
+// Stays: as what `sample` answers at each of the eight places, for copies and products alike, a sample of a product takes three times as long.
 fn product_block(first: [f64; 8], second: [f64; 8]) -> [f64; 8]
     ensures { result ≡ tab 8 (times (λ k. get_or first k nan) (λ k. get_or second k nan)) }
 {

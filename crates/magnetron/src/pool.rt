@@ -27,11 +27,7 @@ impl Pool {
     fn with_stale(self, stale: [bool; 16]) -> Pool
         ensures { result ≡ marked self stale }
     {
-        Pool {
-            count: self.count,
-            capacity: self.capacity,
-            stale,
-        }
+        Pool { stale, ..self }
     }
 
     // Every buffer that is there is stale; the marks past the count stay.
@@ -59,14 +55,10 @@ impl Pools {
     pub fn with_marks(self, marks: Marks) -> Pools
         ensures { result ≡ remarked self marks }
     {
-        let internal = self.internal;
-        let external = self.external;
-        let internal_stale = marks.internal;
-        let external_stale = marks.external;
         Pools {
-            internal: internal.with_stale(internal_stale),
-            external: external.with_stale(external_stale),
-            reset: self.reset,
+            internal: self.internal.with_stale(marks.internal),
+            external: self.external.with_stale(marks.external),
+            ..self
         }
     }
 

@@ -65,14 +65,12 @@ impl Lent<'_> {
                 pools,
             };
         }
-        let internal = pools.internal.all_stale();
-        let external = pools.external;
         Prepared {
             verdict: Ok(()),
             pools: Pools {
-                internal,
-                external,
+                internal: pools.internal.all_stale(),
                 reset: false,
+                ..pools
             },
         }
     }
