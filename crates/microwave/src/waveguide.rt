@@ -67,13 +67,15 @@ impl Reflectance {
 }
 
 // The delay in the ring of a waveguide. Past its bound there is no such ring, and the sum is not worked out.
+#[tactic(auto, using(crate::proofs::Strings::no_ring))]
 fn delay_over(buffer_size: usize, fract_offset: f64) -> Delay
     ensures { result ≡ delay_at (buffer_size + 1) fract_offset }
 {
     if buffer_size < 32768 {
-        return delay_at(buffer_size + 1, fract_offset);
+        delay_at(buffer_size + 1, fract_offset)
+    } else {
+        delay_at(0, fract_offset)
     }
-    delay_at(0, fract_offset)
 }
 
 // What a waveguide works out for a window whose samples are w seconds wide. The ring holds the fraction to 0..1, and tells whether it had to.

@@ -1,21 +1,20 @@
 -- The loop over a window of a machine with one input: its invariant and its steps. Over magnetron's loop law.
 --     Looped           after i samples
 --     looped_start     before the first sample
---     looped_room, looped_reach     sample i of the target lies in the pool, and sample i of the input in reach
 --     looped_more      the machine steps on what is read, and what it answers is written
 --     looped_end       once i is the number of samples
 --     windowed_alone   what a loop leaves of a machine that has no ring is said of its memory alone
 -- Assumes nothing.
-use Rattle.std.proofs.Common.{◌≡◌, ℕ, zero, suc, ◌+◌, ◌<◌, ◌≤◌, List, length, refl, ap, ◌∙◌, le_antisymm, add-one}
+use Rattle.std.proofs.Common.{◌≡◌, ℕ, zero, suc, ◌+◌, ◌<◌, ◌≤◌, List, refl, ap, ◌∙◌, le_antisymm, add-one}
 use lib.Ieee.{Float}
 use Rattle.magnetron.specs.Signals.{state_at, machine}
-use Rattle.magnetron.specs.Inside.Source.{signal_of, InReach}
+use Rattle.magnetron.specs.Inside.Source.{signal_of}
 use Rattle.magnetron.specs.Inside.Target.{LiesIn, ClearOf, sampled}
 use Rattle.magnetron.specs.declared.source.Source.{Source}
 use Rattle.magnetron.specs.declared.output.Target.{Target}
 use Rattle.magnetron.specs.Inside.Mix.{mix_of, from}
 use Rattle.magnetron.proofs.Blocks.{window_ext}
-use Rattle.magnetron.proofs.Writing.{Writing, writing_start, room, reach, as_at_first, writing_more, writing_end}
+use Rattle.magnetron.proofs.Writing.{Writing, writing_start, as_at_first, writing_more, writing_end}
 use Rattle.util.specs.declared.step.Step.{Step}
 use Rattle.microwave.specs.Running.{Running, running, ringless, next_by, out_by}
 use Rattle.microwave.specs.Inside.{Windowed}
@@ -32,12 +31,6 @@ module _ {S : Type 0} {next : S → Float → S} {out : S → Float → Float} {
   looped_start fits clear = record { clear = clear; writes = writing_start fits; state = refl }
 
   module _ {l : List Float} {s : S} {i : ℕ} (t : Looped next out s₀ own other input target l s i) where
-    pub looped_room : i < target.samples → target.base + i < length l
-    looped_room h = room t.writes h
-
-    pub looped_reach : i < target.samples → InReach input (length l) (length other) i
-    looped_reach h = reach t.writes h input other t.clear
-
     pub looped_more : i < target.samples → {y z : Float} {s' : S} {l' : List Float} → y ≡ signal_of input l other i → s' ≡ next s y → z ≡ out s y → l' ≡ sampled l target i z
         → Looped next out s₀ own other input target l' s' (i + 1)
     unfolding state_at
