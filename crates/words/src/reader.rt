@@ -23,13 +23,11 @@ impl Cursor {
     pub fn left(self) -> usize
         ensures { result ≡ self.end - self.at }
     {
-        if self.end < self.at {
-            return 0;
-        }
-        self.end - self.at
+        self.end.saturating_sub(self.at)
     }
 
     // The next word, and the cursor past it; None where fewer than eight bytes are left.
+    #[tactic(auto, unfolding(crate::specs::Reader::taken_of))]
     pub fn take(self, bytes: &[u8]) -> Option<(u64, Cursor)>
         ensures { result ≡ taken_of bytes.now self }
     {
@@ -61,21 +59,17 @@ impl Cursor {
     }
 
     // The bytes that are left, moved to the buffer's front, so that more can be read after them.
+    #[tactic(auto, unfolding(crate::specs::Reader::front_of))]
     pub fn front(self, bytes: &mut [u8]) -> Cursor
         ensures { (result, bytes.new) ≡ front_of bytes.old self }
     {
-        let at = self.at;
-        let end = self.end;
-        if bytes.len() < end {
+        if bytes.len() < self.end || self.end < self.at {
             return Cursor { at: 0, end: 0 };
         }
-        if end < at {
-            return Cursor { at: 0, end: 0 };
-        }
-        bytes.copy_within(at..end, 0);
+        bytes.copy_within(self.at..self.end, 0);
         Cursor {
             at: 0,
-            end: end - at,
+            end: self.left(),
         }
     }
 }

@@ -12,6 +12,7 @@ pub struct Poured {
 }
 
 // The word is put at `at`, and where the next goes is told; None, with nothing changed, where fewer than eight bytes are left.
+#[tactic(auto, unfolding(crate::specs::Writer::put_of))]
 pub fn put(bytes: &mut [u8], at: usize, word: u64) -> Option<usize>
     ensures { (result, bytes.new) ≡ put_of bytes.old at word }
 {

