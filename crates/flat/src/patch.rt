@@ -41,32 +41,14 @@ fn blank_stage() -> Stage
 pub fn no_parameter() -> FlatParameter
     ensures { result ≡ no_parameter }
 {
-    FlatParameter {
-        mark: 0,
-        slot: 0,
-        bits: 0,
-    }
+    FlatParameter::default()
 }
 
 // What stands where there are no numbers of a stage: zeros.
 pub fn no_flat() -> FlatStage
     ensures { result ≡ no_flat }
 {
-    let absent = no_parameter();
-    FlatStage {
-        kind: 0,
-        choice: 0,
-        modulation: 0,
-        buffer_size: 0,
-        first_input: 0,
-        second_input: 0,
-        output: 0,
-        second_output: 0,
-        out_level: absent,
-        first: absent,
-        second: absent,
-        third: absent,
-    }
+    FlatStage::default()
 }
 
 // How many stages are looked at: none where the count is over its bound, which the run refuses.

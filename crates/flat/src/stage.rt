@@ -1,11 +1,9 @@
-// The stage that plain numbers name. Rests on `form` for which numbers a kind has, and on `words` for the number of given bits; the stages are
-// those of `stages`.
+// The stage that plain numbers name. Rests on `words` for the number of given bits; the stages are those of `stages`.
 ghost use Rattle.std.specs.Prelude.{◌≡◌};
-ghost use Rattle.flat.specs.Stage.{parameter_of, waveform_of, modulation_of, reflectance_of, filter_of, oscillator_of, waveguide_of, pan_of, kind_of, chosen_of, marked_of, known_of, named_of};
+ghost use Rattle.flat.specs.Stage.{named_parameter, named_waveform, named_modulation, named_reflectance, named_filter, named_oscillator, named_waveguide, named_pan, named_kind, named_of};
 
-use crate::form::{Form, form_of};
 use magnetron::buffer::buffer_of;
-use microwave::filter::FilterType;
+use microwave::filter::{Filter, FilterType};
 use microwave::oscillator::{Modulation, OscillatorSpec, OscillatorType};
 use microwave::parameter::Parameter;
 use microwave::waveguide::{Reflectance, WaveguideSpec};
@@ -16,7 +14,7 @@ use words::number::from_word;
 // A parameter, by its mark: 0 absent, 1 the number of these bits, 2 the slot, 3 the window's seconds. Bits, since those of two numbers can be
 // compared, and a float has one NaN for many bits.
 #[repr(C)]
-#[derive(Clone, Copy)]
+#[derive(Clone, Copy, Default)]
 pub struct FlatParameter {
     pub mark: usize,
     pub slot: usize,
@@ -26,7 +24,7 @@ pub struct FlatParameter {
 // A stage, its buffers by their numbers. What the kind does not have is not looked at. Of Pan, `output` and `out_level` are the left ones,
 // `second_output` the right one, and the parameters are the right level, the left gain and the right gain.
 #[repr(C)]
-#[derive(Clone, Copy)]
+#[derive(Clone, Copy, Default)]
 pub struct FlatStage {
     pub kind: usize,
     pub choice: usize,
@@ -42,226 +40,173 @@ pub struct FlatStage {
     pub third: FlatParameter,
 }
 
-// Here and in the choices below, the last arm takes each number past the table too: `known` lets none of those through.
-fn parameter_of(p: FlatParameter) -> Parameter
-    ensures { result ≡ parameter_of p }
+// Here and below, None where a number names nothing.
+#[tactic(auto, unfolding(crate::specs::Stage::parameter_of))]
+fn parameter_of(p: FlatParameter) -> Option<Parameter>
+    ensures { result ≡ named_parameter p }
 {
-    let mark = p.mark;
-    match mark {
-        0 => Parameter::Absent,
-        1 => Parameter::Fixed(from_word(p.bits)),
-        2 => Parameter::Slot(p.slot),
-        _ => Parameter::WindowSeconds,
+    match p.mark {
+        0 => Some(Parameter::Absent),
+        1 => Some(Parameter::Fixed(from_word(p.bits))),
+        2 => Some(Parameter::Slot(p.slot)),
+        3 => Some(Parameter::WindowSeconds),
+        _ => None,
     }
 }
 
-fn waveform_of(number: usize) -> OscillatorType
-    ensures { result ≡ waveform_of number }
+#[tactic(auto, unfolding(crate::specs::Stage::waveform_of))]
+fn waveform_of(number: usize) -> Option<OscillatorType>
+    ensures { result ≡ named_waveform number }
 {
     match number {
-        0 => OscillatorType::Sin,
-        1 => OscillatorType::Sin3,
-        2 => OscillatorType::Triangle,
-        3 => OscillatorType::Square,
-        _ => OscillatorType::Sawtooth,
+        0 => Some(OscillatorType::Sin),
+        1 => Some(OscillatorType::Sin3),
+        2 => Some(OscillatorType::Triangle),
+        3 => Some(OscillatorType::Square),
+        4 => Some(OscillatorType::Sawtooth),
+        _ => None,
     }
 }
 
-fn modulation_of(number: usize) -> Modulation
-    ensures { result ≡ modulation_of number }
+#[tactic(auto, unfolding(crate::specs::Stage::modulation_of))]
+fn modulation_of(number: usize) -> Option<Modulation>
+    ensures { result ≡ named_modulation number }
 {
     match number {
-        0 => Modulation::ByPhase,
-        _ => Modulation::ByFrequency,
+        0 => Some(Modulation::ByPhase),
+        1 => Some(Modulation::ByFrequency),
+        _ => None,
     }
 }
 
-fn reflectance_of(number: usize) -> Reflectance
-    ensures { result ≡ reflectance_of number }
+#[tactic(auto, unfolding(crate::specs::Stage::reflectance_of))]
+fn reflectance_of(number: usize) -> Option<Reflectance>
+    ensures { result ≡ named_reflectance number }
 {
     match number {
-        0 => Reflectance::Positive,
-        _ => Reflectance::Negative,
+        0 => Some(Reflectance::Positive),
+        1 => Some(Reflectance::Negative),
+        _ => None,
     }
 }
 
-// The filters are numbered from 3 on. Of a kind below that the answer is not used.
-fn filter_of(kind: usize, a: Parameter, b: Parameter) -> FilterType
-    ensures { result ≡ filter_of kind a b }
+// The filters are the kinds from 3 on. A second parameter that a filter does not have is not looked at.
+#[tactic(auto, unfolding(crate::specs::Stage::filter_of))]
+fn filter_of(flat: FlatStage) -> Option<FilterType>
+    ensures { result ≡ named_filter flat }
 {
-    if kind < 3 {
-        return FilterType::LowPass { cutoff: a };
-    }
-    let number = kind - 3;
-    match number {
-        0 => FilterType::LowPass { cutoff: a },
-        1 => FilterType::LowPass2 {
+    let a = parameter_of(flat.first)?;
+    let b = parameter_of(flat.second);
+    match flat.kind {
+        3 => Some(Filter::LowPass { cutoff: a }),
+        4 => Some(Filter::LowPass2 {
             resonance: a,
-            quality: b,
-        },
-        2 => FilterType::HighPass { cutoff: a },
-        3 => FilterType::HighPass2 {
+            quality: b?,
+        }),
+        5 => Some(Filter::HighPass { cutoff: a }),
+        6 => Some(Filter::HighPass2 {
             resonance: a,
-            quality: b,
-        },
-        4 => FilterType::BandPass {
+            quality: b?,
+        }),
+        7 => Some(Filter::BandPass {
             center: a,
-            quality: b,
-        },
-        5 => FilterType::Notch {
+            quality: b?,
+        }),
+        8 => Some(Filter::Notch {
             center: a,
-            quality: b,
-        },
-        _ => FilterType::AllPass {
+            quality: b?,
+        }),
+        9 => Some(Filter::AllPass {
             corner: a,
-            quality: b,
-        },
+            quality: b?,
+        }),
+        _ => None,
     }
 }
 
-fn oscillator_of(flat: FlatStage) -> OscillatorSpec
-    ensures { result ≡ oscillator_of flat }
+fn oscillator_of(flat: FlatStage) -> Option<OscillatorSpec>
+    ensures { result ≡ named_oscillator flat }
 {
-    let first = flat.first;
-    let second = flat.second;
-    OscillatorSpec {
-        oscillator_type: waveform_of(flat.choice),
-        frequency: parameter_of(first),
-        phase: parameter_of(second),
-    }
+    Some(OscillatorSpec {
+        oscillator_type: waveform_of(flat.choice)?,
+        frequency: parameter_of(flat.first)?,
+        phase: parameter_of(flat.second)?,
+    })
 }
 
-fn waveguide_of(flat: FlatStage) -> WaveguideSpec
-    ensures { result ≡ waveguide_of flat }
+fn waveguide_of(flat: FlatStage) -> Option<WaveguideSpec>
+    ensures { result ≡ named_waveguide flat }
 {
-    let first = flat.first;
-    let second = flat.second;
-    let third = flat.third;
-    WaveguideSpec {
+    Some(WaveguideSpec {
         buffer_size: flat.buffer_size,
-        frequency: parameter_of(first),
-        cutoff: parameter_of(second),
-        feedback: parameter_of(third),
-        reflectance: reflectance_of(flat.choice),
-    }
+        frequency: parameter_of(flat.first)?,
+        cutoff: parameter_of(flat.second)?,
+        feedback: parameter_of(flat.third)?,
+        reflectance: reflectance_of(flat.choice)?,
+    })
 }
 
-fn pan_of(flat: FlatStage) -> Kind
-    ensures { result ≡ pan_of flat }
+fn pan_of(flat: FlatStage) -> Option<Kind>
+    ensures { result ≡ named_pan flat }
 {
-    let right_level = flat.first;
-    let left_gain = flat.second;
-    let right_gain = flat.third;
     let right = Side {
         output: buffer_of(flat.second_output),
-        out_level: parameter_of(right_level),
-        gain: parameter_of(right_gain),
+        out_level: parameter_of(flat.first)?,
+        gain: parameter_of(flat.third)?,
     };
-    Kind::Pan {
+    Some(Kind::Pan {
         input: buffer_of(flat.first_input),
-        left_gain: parameter_of(left_gain),
+        left_gain: parameter_of(flat.second)?,
         right,
-    }
+    })
 }
 
-// The kind with its parts. What several arms share is worked out before them, and the other arms leave it.
-fn kind_of(flat: FlatStage) -> Kind
-    ensures { result ≡ kind_of flat }
+// The kind with its parts.
+#[tactic(auto, unfolding(crate::specs::Stage::kind_of, crate::specs::Stage::kinds))]
+fn kind_of(flat: FlatStage) -> Option<Kind>
+    ensures { result ≡ named_kind flat }
 {
-    let kind = flat.kind;
-    let first = flat.first;
-    let second = flat.second;
-    let limit = parameter_of(first);
     let input = buffer_of(flat.first_input);
-    let filter = filter_of(kind, limit, parameter_of(second));
-    let oscillator = oscillator_of(flat);
-    match kind {
-        0 => Kind::Pass { input },
-        1 => Kind::Pow3 { input },
-        2 => Kind::Clip { input, limit },
-        3 => Kind::Filter { input, filter },
-        4 => Kind::Filter { input, filter },
-        5 => Kind::Filter { input, filter },
-        6 => Kind::Filter { input, filter },
-        7 => Kind::Filter { input, filter },
-        8 => Kind::Filter { input, filter },
-        9 => Kind::Filter { input, filter },
-        10 => Kind::Oscillator { oscillator },
-        11 => Kind::ModOscillator {
+    match flat.kind {
+        0 => Some(Kind::Pass { input }),
+        1 => Some(Kind::Pow3 { input }),
+        2 => Some(Kind::Clip {
             input,
-            oscillator,
-            modulation: modulation_of(flat.modulation),
-        },
-        12 => Kind::Waveguide {
+            limit: parameter_of(flat.first)?,
+        }),
+        3 | 4 | 5 | 6 | 7 | 8 | 9 => Some(Kind::Filter {
             input,
-            waveguide: waveguide_of(flat),
-        },
-        13 => Kind::RingModulator {
+            filter: filter_of(flat)?,
+        }),
+        10 => Some(Kind::Oscillator {
+            oscillator: oscillator_of(flat)?,
+        }),
+        11 => Some(Kind::ModOscillator {
+            input,
+            oscillator: oscillator_of(flat)?,
+            modulation: modulation_of(flat.modulation)?,
+        }),
+        12 => Some(Kind::Waveguide {
+            input,
+            waveguide: waveguide_of(flat)?,
+        }),
+        13 => Some(Kind::RingModulator {
             first: input,
             second: buffer_of(flat.second_input),
-        },
-        _ => pan_of(flat),
+        }),
+        14 => pan_of(flat),
+        _ => None,
     }
-}
-
-// Whether a choice is one of `limit`. Where there is nothing to choose it is not looked at.
-fn chosen(limit: u8, choice: usize) -> bool
-    ensures { result ≡ chosen_of limit choice }
-{
-    if limit == 0 {
-        return true;
-    }
-    choice < limit as usize
-}
-
-// Whether a mark says something. Where the kind does not have the parameter it is not looked at.
-fn marked(has: bool, p: FlatParameter) -> bool
-    ensures { result ≡ marked_of has p }
-{
-    if has {
-        return p.mark < 4;
-    }
-    true
-}
-
-// Whether the choices and the marks that the kind has are all known.
-fn known(form: Form, flat: FlatStage) -> bool
-    ensures { result ≡ known_of form flat }
-{
-    let out_level = flat.out_level;
-    let first = flat.first;
-    let second = flat.second;
-    let third = flat.third;
-    let count = form.parameters;
-    if !chosen(form.choices, flat.choice) {
-        return false;
-    }
-    if !chosen(form.modulations, flat.modulation) {
-        return false;
-    }
-    if !marked(true, out_level) {
-        return false;
-    }
-    if !marked(count > 0, first) {
-        return false;
-    }
-    if !marked(count > 1, second) {
-        return false;
-    }
-    marked(count > 2, third)
 }
 
 // The stage that the numbers name; None where there is no such kind, choice or mark.
+#[tactic(auto, unfolding(crate::specs::Stage::named_of, crate::specs::Stage::named_by))]
 pub fn stage_of(flat: FlatStage) -> Option<Stage>
     ensures { result ≡ named_of flat }
 {
-    let form = form_of(flat.kind)?;
-    if !known(form, flat) {
-        return None;
-    }
     Some(Stage {
-        kind: kind_of(flat),
+        kind: kind_of(flat)?,
         output: buffer_of(flat.output),
-        out_level: parameter_of(flat.out_level),
+        out_level: parameter_of(flat.out_level)?,
     })
 }

@@ -1,2 +1,0 @@
--- Laws that the proofs of `flat::stage` alone cite.
-mod Filters

@@ -1,5 +1,0 @@
--- `flat::stage::waveguide_of` meets its contract: its parts, as its callees answer them. Assumes nothing.
-use Rattle.flat.proofs.stage.waveguide_of.Goals as goal
-
-pub returns : goal.returns
-returns c = rw (c.reflectance_of.ensures, c.parameter_of.ensures, c.parameter_of-2.ensures, c.parameter_of-3.ensures)
