@@ -58,8 +58,9 @@ fn run_order(
             marks,
             pools,
             window: records.window,
+            values,
         };
-        let taken = turn.take(values, ring, internal, external);
+        let taken = turn.take(ring, internal, external);
         states.stages[k] = taken.state;
         reaches.stages[k] = taken.reach;
         let outputs = stage.outputs();
@@ -76,6 +77,7 @@ fn run_order(
 
 // A run of n samples, each `width` seconds wide. Answers the greatest activity, or the first refusal; and by stage number whether the last sample
 // of its string was within its ring.
+// Stays: the new form is no plainer: a caller has each of these by itself, as C hands them to `grynnadot_run`, and would put them into a record for this one call.
 pub fn run(
     patch: Patch,
     order: &[u8],

@@ -45,12 +45,13 @@ fn sources(inputs: Inputs, pools: Pools, marks: Marks, output: BufferIndex) -> S
 
 // A stage whose turn it is: what it remembers, the marks by then, and what holds for the whole run.
 #[derive(Clone, Copy)]
-pub(crate) struct Turn {
+pub(crate) struct Turn<'a> {
     pub stage: Stage,
     pub state: State,
     pub marks: Marks,
     pub pools: Pools,
     pub window: RenderWindow,
+    pub values: &'a [f64],
 }
 
 // What a turn leaves of its stage: what it remembers, and whether its string reached its note.
@@ -73,19 +74,19 @@ fn target_of(pools: Pools, marks: Marks, samples: usize, output: BufferIndex, le
     }
 }
 
-impl Turn {
+impl Turn<'_> {
     // One window of the stage's own output: `own` is its pool, `ring` the stage's ring.
-    fn render(&self, values: &[f64], ring: &mut [f64], own: &mut [f64], other: &[f64]) -> Taken
-        requires { Ready self.now.pools self.now.window values.now self.now.stage self.now.marks (owned self.now.state ring.old) own.old other.now }
-        ensures reach_value { result.reach ≡ told_of self.now.window values.now self.now.stage }
-        ensures begun { Begun self.now.pools self.now.window values.now self.now.stage
+    fn render(&self, ring: &mut [f64], own: &mut [f64], other: &[f64]) -> Taken
+        requires { Ready self.now.pools self.now.window self.now.values.now self.now.stage self.now.marks (owned self.now.state ring.old) own.old other.now }
+        ensures reach_value { result.reach ≡ told_of self.now.window self.now.values.now self.now.stage }
+        ensures begun { Begun self.now.pools self.now.window self.now.values.now self.now.stage
             (owned self.now.state ring.old) (sided self.now.stage.output own.old other.now self.now.marks)
             (owned result.state ring.new) (sided self.now.stage.output own.new other.now (cleared self.now.stage.output self.now.marks)) }
     {
         let stage = self.stage;
         let window = self.window;
-        let level = first_number(stage.level_asks(), values, window.render_window_secs);
-        let numbers = stage.kind.numbers(values, window.render_window_secs);
+        let level = first_number(stage.level_asks(), self.values, window.render_window_secs);
+        let numbers = stage.kind.numbers(self.values, window.render_window_secs);
         let target = target_of(
             self.pools,
             self.marks,
@@ -108,30 +109,26 @@ impl Turn {
     }
 
     // The kind of the stage's own output picks the pool that is written.
-    fn begin(
-        &self,
-        values: &[f64],
-        ring: &mut [f64],
-        internal: &mut [f64],
-        external: &mut [f64],
-    ) -> Taken
-        requires { Ready self.now.pools self.now.window values.now self.now.stage self.now.marks (owned self.now.state ring.old)
+    // Stays: the new form is no plainer: this match stands here and in `take`, and a helper that lends both pools in their sequence would be the
+    // same match, with a clause of what both are once it is over.
+    fn begin(&self, ring: &mut [f64], internal: &mut [f64], external: &mut [f64]) -> Taken
+        requires { Ready self.now.pools self.now.window self.now.values.now self.now.stage self.now.marks (owned self.now.state ring.old)
             (pick self.now.stage.output internal.old external.old) (pick self.now.stage.output external.old internal.old) }
-        ensures reach_value { result.reach ≡ told_of self.now.window values.now self.now.stage }
-        ensures begun { Begun self.now.pools self.now.window values.now self.now.stage
+        ensures reach_value { result.reach ≡ told_of self.now.window self.now.values.now self.now.stage }
+        ensures begun { Begun self.now.pools self.now.window self.now.values.now self.now.stage
             (owned self.now.state ring.old) (banks_of internal.old external.old self.now.marks)
             (owned result.state ring.new) (banks_of internal.new external.new (cleared self.now.stage.output self.now.marks)) }
     {
         match self.stage.output {
-            BufferIndex::External(_) => self.render(values, ring, external, internal),
-            BufferIndex::Internal(_) => self.render(values, ring, internal, external),
+            BufferIndex::External(_) => self.render(ring, external, internal),
+            BufferIndex::Internal(_) => self.render(ring, internal, external),
         }
     }
 
     // One window of a second output, once the stage's own is written: the marks, and so what is heard, are still those of before.
-    fn render_second(&self, side: Side, values: &[f64], own: &mut [f64], other: &[f64])
+    fn render_second(&self, side: Side, own: &mut [f64], other: &[f64])
         requires { Wired self.now.pools self.now.window self.now.stage self.now.marks side.output own.old other.now }
-        ensures { own.new ≡ second_in self.now.pools self.now.window values.now self.now.stage self.now.marks side own.old other.now }
+        ensures { own.new ≡ second_in self.now.pools self.now.window self.now.values.now self.now.stage self.now.marks side own.old other.now }
     {
         let stage = self.stage;
         let window = self.window;
@@ -139,7 +136,7 @@ impl Turn {
             of_pair(side.out_level, stage.out_level),
             required(side.gain),
         ];
-        let numbers = numbers_found(asks, values, window.render_window_secs);
+        let numbers = numbers_found(asks, self.values, window.render_window_secs);
         let target = target_of(
             self.pools,
             self.marks,
@@ -152,27 +149,21 @@ impl Turn {
     }
 
     // Both outputs, or the one that there is.
-    pub(crate) fn take(
-        &self,
-        values: &[f64],
-        ring: &mut [f64],
-        internal: &mut [f64],
-        external: &mut [f64],
-    ) -> Taken
-        requires { Ready self.now.pools self.now.window values.now self.now.stage self.now.marks (owned self.now.state ring.old)
+    pub(crate) fn take(&self, ring: &mut [f64], internal: &mut [f64], external: &mut [f64]) -> Taken
+        requires { Ready self.now.pools self.now.window self.now.values.now self.now.stage self.now.marks (owned self.now.state ring.old)
             (pick self.now.stage.output internal.old external.old) (pick self.now.stage.output external.old internal.old) }
-        ensures reach_value { result.reach ≡ told_of self.now.window values.now self.now.stage }
-        ensures turned { Turned self.now.pools self.now.window values.now self.now.stage
+        ensures reach_value { result.reach ≡ told_of self.now.window self.now.values.now self.now.stage }
+        ensures turned { Turned self.now.pools self.now.window self.now.values.now self.now.stage
             (owned self.now.state ring.old) (banks_of internal.old external.old self.now.marks)
             (owned result.state ring.new) (banks_of internal.new external.new (runs cleared (outputs_of self.now.stage) self.now.marks)) }
     {
-        let taken = self.begin(values, ring, internal, external);
+        let taken = self.begin(ring, internal, external);
         let Some(side) = self.stage.kind.second() else {
             return taken;
         };
         match side.output {
-            BufferIndex::External(_) => self.render_second(side, values, external, internal),
-            BufferIndex::Internal(_) => self.render_second(side, values, internal, external),
+            BufferIndex::External(_) => self.render_second(side, external, internal),
+            BufferIndex::Internal(_) => self.render_second(side, internal, external),
         }
         taken
     }

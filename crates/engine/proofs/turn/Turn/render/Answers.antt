@@ -20,7 +20,7 @@ returns c =
     let a = c.args in
     record {
       reach_value = rw (c.reach-reach.ensures, c.settle-machine.ensures, c.numbers-numbers.ensures)
-          (settled_reach (numbers_in a.values.now a.self.now.window a.self.now.stage) a.self.now.window a.self.now.state a.self.now.stage.kind);
+          (settled_reach (numbers_in a.self.now.values.now a.self.now.window a.self.now.stage) a.self.now.window a.self.now.state a.self.now.stage.kind);
       begun = begun c.requires _ _
           (rw (c.settle-machine.ensures, c.enter.ensures, c.numbers-numbers.ensures, c.sources-inputs.ensures, c.inputs.ensures, c.target_of-target.ensures, c.first_number-level.ensures, c.level_asks.ensures)
           at c.play-state.ensures);
