@@ -109,8 +109,7 @@ impl Turn<'_> {
     }
 
     // The kind of the stage's own output picks the pool that is written.
-    // Stays: the new form is no plainer: this match stands here and in `take`, and a helper that lends both pools in their sequence would be the
-    // same match, with a clause of what both are once it is over.
+    // Stays: the new form is no plainer: what would lend both pools in their sequence is the same match, which stands in `take` once more.
     fn begin(&self, ring: &mut [f64], internal: &mut [f64], external: &mut [f64]) -> Taken
         requires { Ready self.now.pools self.now.window self.now.values.now self.now.stage self.now.marks (owned self.now.state ring.old)
             (pick self.now.stage.output internal.old external.old) (pick self.now.stage.output external.old internal.old) }
