@@ -66,6 +66,7 @@ fn shaped_window<S: Shaping>(
 }
 
 // A shape of two inputs. Where it reads one, the second may be anything that lies clear.
+// Stays: own, other, an input and the target go side by side, here and below: a record of them would be made by one caller, `Machine::play`, and taken apart by each loop.
 pub fn plain_window(
     shape: Shape,
     own: &mut [f64],
