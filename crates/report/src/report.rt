@@ -44,6 +44,7 @@ impl Report {
     }
 
     // A stretch of samples more, of any length; refused where a count could pass 4,294,967,295. A refusal leaves the report as it is.
+    #[tactic(auto, unfolding(crate::specs::Report::added_of, crate::specs::Report::told))]
     pub fn add(&mut self, samples: &[f64]) -> Result<(), Refused>
         ensures { told result self.new ≡ added_of self.old (map to_word samples.now) }
     {
@@ -55,6 +56,7 @@ impl Report {
     }
 
     // A stretch of samples more, as bytes, each sample's eight low byte first: refused as above, and then where they end inside a sample.
+    #[tactic(auto, using(crate::proofs::Walk::words_of), unfolding(crate::specs::Bytes::added_bytes_of, crate::specs::Report::told))]
     pub fn add_bytes(&mut self, bytes: &[u8]) -> Result<(), Refused>
         ensures { told result self.new ≡ added_bytes_of self.old bytes.now }
     {
@@ -70,6 +72,7 @@ impl Report {
     }
 
     // The greatest count.
+    #[tactic(auto, unfolding(crate::specs::Report::fullest))]
     fn fullest(self) -> u64
         ensures { result ≡ fullest self }
     {

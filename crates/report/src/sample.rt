@@ -18,6 +18,7 @@ pub enum Sign {
 
 // The sign of a sample that has one, by its bits.
 // Stays: a function with a `requires`, which `From` cannot have; one that also told of zeros and NaNs would ask again what `with_sample` has asked.
+#[tactic(auto, using(crate::proofs::Signs::highest_bit))]
 pub(crate) fn sign_of(bits: u64) -> Sign
     requires { (0 < magnitude bits) × (magnitude bits ≤ infinity) }
     ensures { result ≡ sign_of bits }
