@@ -10,6 +10,7 @@ use stages::patch::Patch;
 use stages::stage::Stage;
 
 // At most 32 stages; those from `count` on are not looked at.
+// Stays: the C interface, grynnadot_run and grynnadot_read_patch, has a count beside the stages.
 #[repr(C)]
 #[derive(Clone, Copy)]
 pub struct FlatPatch {

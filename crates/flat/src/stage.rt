@@ -13,6 +13,7 @@ use words::number::from_word;
 
 // A parameter, by its mark: 0 absent, 1 the number of these bits, 2 the slot, 3 the window's seconds. Bits, since those of two numbers can be
 // compared, and a float has one NaN for many bits.
+// Stays: the C interface, grynnadot_run and grynnadot_read_patch, has a mark beside what it asks for in place of an enum.
 #[repr(C)]
 #[derive(Clone, Copy, Default)]
 pub struct FlatParameter {
@@ -23,6 +24,7 @@ pub struct FlatParameter {
 
 // A stage, its buffers by their numbers. What the kind does not have is not looked at. Of Pan, `output` and `out_level` are the left ones,
 // `second_output` the right one, and the parameters are the right level, the left gain and the right gain.
+// Stays: the C interface, grynnadot_run and grynnadot_read_patch, has numbers for kinds, choices and buffers in place of enums.
 #[repr(C)]
 #[derive(Clone, Copy, Default)]
 pub struct FlatStage {
