@@ -1,6 +1,7 @@
 // Sorts 3 to 7: a device is set up, asked one operation after the other, and shown at the end. What the five have in common is here; what
 // each asks and does stands in `ring`, `soft_clip`, `low_pass`, `comb` and `all_pass`.
-use answers::refusal::{Refusal, Told, Verdict};
+use crate::outcome::write_outcome;
+use answers::refusal::Verdict;
 use stream::place::Place;
 use util::all_pass::AllPassDelay;
 use util::answered::Answered;
@@ -128,13 +129,6 @@ pub(crate) fn write_answer<S>(place: &mut Place, answered: Answered<S>, tells_re
         place.write(u8::from(answered.reach) as u64);
     }
     answered.next
-}
-
-// A number and a stage.
-pub(crate) fn write_outcome<T: Copy>(place: &mut Place, answer: Result<T, Refusal>) {
-    let told = Told::of(answer);
-    place.write(told.number as u64);
-    place.write(told.stage as u64);
 }
 
 // What is remembered over a ring: the position and all cells.

@@ -1,6 +1,6 @@
 // One operation of sorts 8 and 9 on pools without a patch: what it does, and what is told of it. Rests on `magnetron` for each operation, and
 // on `request` for what is asked.
-use crate::device::write_outcome;
+use crate::outcome::write_outcome;
 use crate::pools::write_marks;
 use crate::request::{Content, Request, Sort, Write};
 use answers::refusal::{Verdict, activity_of};

@@ -74,7 +74,7 @@ fn read_buffer(place: &mut Place) -> BufferIndex {
     BufferIndex::from(place.next() as usize)
 }
 
-// A level is 0, or 1 and its bits. Any other mark is refused, and has as many words as it says, of three.
+// A level is 0, or 1 and its bits. Any other mark is refused, with as many words behind it as it says, of three: what follows is read past them.
 fn read_level(place: &mut Place) -> Option<f64> {
     let mark = place.next();
     place.refuse_if(mark > 1);

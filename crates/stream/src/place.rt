@@ -97,6 +97,8 @@ impl Place {
     }
 
     // A word inside a case. Where there is none the case is refused, and the word is 0.
+    // Stays: no `?` leaves a case early, since the program writes what it wrote on bad input too, and what it writes of the case at fault comes of
+    // the words after the fault.
     pub fn next(&mut self) -> u64 {
         let word = self.take_word();
         self.refuse_if(word.is_none());
@@ -233,6 +235,7 @@ impl Place {
 // What is unread moves to the front, and more is read behind it, until `want` bytes are there or the input ends.
 fn refill(unread: Cursor, stdin: Stdin, input: &mut [u8], want: usize) -> Cursor {
     let mut end = unread.front(input).end;
+    // Stays: a read brings as many bytes as it likes, by which no iterator counts.
     while end < want {
         let more = read_behind(stdin, input, end);
         if more == 0 {
