@@ -1,6 +1,7 @@
 // The stage that plain numbers name. Rests on `words` for the number of given bits; the stages are those of `stages`.
 ghost use Rattle.std.specs.Prelude.{◌≡◌};
-ghost use Rattle.flat.specs.Stage.{named_parameter, named_waveform, named_modulation, named_reflectance, named_filter, named_oscillator, named_waveguide, named_pan, named_kind, named_of};
+ghost use Rattle.flat.specs.Stage.{named_of};
+ghost use Rattle.flat.specs.Inside.{named_parameter, named_waveform, named_modulation, named_reflectance, named_filter, named_oscillator, named_waveguide, named_pan, named_kind};
 
 use magnetron::buffer::buffer_of;
 use microwave::filter::{Filter, FilterType};
