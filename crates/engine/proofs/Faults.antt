@@ -3,13 +3,13 @@
 --     first_fails .. none_fails      what each of them answers
 --     Sound, sound                   the checks of a stage that passed, as facts
 --     passed-named                   naming a stage changes no verdict
---     stages_stop, stages_go, stages-end     the loop along the order
+--     stages_stop, stages_go     the loop along the order
 -- Assumes nothing.
 use mathlib.Core.Path.{◌≡◌, refl, sym, ap, ◌∙◌}
 use mathlib.Core.Bool.{Bool, true, false, ◌&&◌, and_assoc, true≢false, false≢true}
 use mathlib.Core.List.{List, [], ◌∷◌, ◌++◌}
 use mathlib.Core.Option.{Option, none, some}
-use Prim.Native.Nat.{ℕ, ◌+◌, ◌<◌, ◌≤◌}
+use Prim.Native.Nat.{ℕ, ◌+◌, ◌<◌}
 use lib.Dec.{eqb}
 use lib.ListN.{length, get_or, drop}
 use lib.Ieee.{Float}
@@ -32,7 +32,7 @@ use Rattle.stages.specs.declared.window.RenderWindow.{RenderWindow}
 use Rattle.stages.specs.Stage.{inputs_of, outputs_of, asks_of, level_asks}
 use Rattle.engine.specs.Run.{Plan, stage_at, fault_of, named, fault, turned}
 use Rattle.engine.specs.Inside.{returned, reason_of}
-use Rattle.engine.proofs.Lists.{rest, last}
+use Rattle.engine.proofs.Lists.{rest}
 
 found_both : (values : List Float) (seconds : Float) (levels rest : List Ask) → all_found (levels ++ rest) values seconds ≡ (all_found levels values seconds && all_found rest values seconds)
 unfolding all_found
@@ -144,6 +144,3 @@ module _ (P : Plan) (ks : List ℕ) (j : ℕ) (m : Marks) {v : Option Refusal} (
       → verdict (fault P) (turned P) (drop (j + 1) ks) m' ≡ v
   unfolding fault turned
   stages_go m' h q f = rw f (sym (named_go (Some (get_or ks j 0)) here _ (sound_of here q)) ∙ now h)
-
-  pub stages-end : length ks ≤ j → Ok tt ≡ returned v
-  stages-end h = ap returned (last (λ (l : List ℕ). verdict (fault P) (turned P) l m) ks j e h)
