@@ -17,6 +17,7 @@ use stages::state::States;
 use stages::window::render_window;
 
 // What a run answers, with the records that it hands back, and whether each string reached its note.
+// Stays: what may not change: by `after_by` a refusal has beside it the records as they came (01: "every record .. is unchanged"), and "within" by stage (02, Five).
 #[derive(Clone, Copy)]
 pub struct Ran {
     pub answer: Answer,

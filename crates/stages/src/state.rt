@@ -7,6 +7,7 @@ use microwave::oscillator::Phases;
 use microwave::parameter::Numbers;
 use microwave::waveguide::StringMemory;
 
+// Stays: the C interface, grynnadot_state, has what each kind remembers side by side in place of an enum.
 #[repr(C)]
 #[derive(Clone, Copy)]
 pub struct State {
@@ -17,6 +18,7 @@ pub struct State {
 }
 
 // One record for each of 32 stages, by stage number.
+// Stays: the C interface, grynnadot_states, has 32 of them in a record in place of a slice.
 #[repr(C)]
 #[derive(Clone, Copy)]
 pub struct States {
