@@ -9,7 +9,7 @@ use microwave::waveguide::StringMemory;
 
 // Stays: the C interface, grynnadot_state, has what each kind remembers side by side in place of an enum.
 #[repr(C)]
-#[derive(Clone, Copy)]
+#[derive(Clone, Copy, Default)]
 pub struct State {
     pub oscillator: Phases,
     pub one_pole: OnePoleMemory,
@@ -29,27 +29,7 @@ pub struct States {
 pub fn new_state() -> State
     ensures { result ≡ new_state }
 {
-    State {
-        oscillator: Phases {
-            phase: 0.0,
-            saved: 0.0,
-        },
-        one_pole: OnePoleMemory {
-            low: 0.0,
-            high: 0.0,
-            last_input: 0.0,
-        },
-        biquad: Biquad {
-            y1: 0.0,
-            y2: 0.0,
-            x1: 0.0,
-            x2: 0.0,
-        },
-        waveguide: StringMemory {
-            low_pass: 0.0,
-            position: 0,
-        },
-    }
+    State::default()
 }
 
 pub fn new_states() -> States
