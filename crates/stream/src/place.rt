@@ -26,6 +26,7 @@ pub enum State {
 
 // The place in both streams: what of the input's buffer is unread, how many bytes of the output's are to be sent, and whether all is over.
 // With it go the streams themselves, which are nothing but the leave to read and to write.
+// Stays: `filled` beside `output` and `unread` beside `input`, since there is no heap: each is a buffer of fixed size, filled and sent again and again.
 #[derive(Drop)]
 pub struct Place {
     pub input: Buffer,
@@ -56,10 +57,7 @@ impl Place {
     pub fn is_over(&self) -> bool
         ensures { result ≡ over_of self.now.state }
     {
-        match self.state {
-            State::Going => false,
-            State::Ended | State::Refused => true,
-        }
+        self.state != State::Going
     }
 
     // All is over, and a last word is to say that it ended amiss.
@@ -129,6 +127,19 @@ impl Place {
             *word = self.next();
         }
         words
+    }
+
+    // So many parts of a case, each answered as it is read, so that the count may be any word. False where all was over before the last.
+    pub fn each<F: FnMut(&mut Place)>(&mut self, count: u64, mut answer: F) -> bool
+        requires { F.IsAlwaysCallable answer }
+    {
+        for _ in 0..count {
+            if self.is_over() {
+                return false;
+            }
+            answer(self);
+        }
+        true
     }
 
     // All the samples are read. Where the input ends before the last, the case is refused and the others stay.
