@@ -31,19 +31,11 @@ pub fn answer_case(place: &mut Place, samples: &mut [f64]) {
         return;
     }
     match Asked::try_from(number) {
-        Ok(Asked::Each(function)) => answer_each(place, function, count),
+        Ok(Asked::Each(function)) => {
+            place.each(count, |place| answer_one(place, function));
+        }
         Ok(Asked::AllPlusZero) => answer_all_plus_zero(place, samples, count as usize),
         Err(_) => place.refuse(),
-    }
-}
-
-// Answers as it reads and holds nothing, so the count may be any word.
-fn answer_each(place: &mut Place, function: Function, count: u64) {
-    for _ in 0..count {
-        answer_one(place, function);
-        if place.is_over() {
-            return;
-        }
     }
 }
 

@@ -77,6 +77,7 @@ impl Session<'_> {
         prepared.verdict
     }
 
+    // Stays: no plainer by `LentMut::shared`: these fields would first be lent mutably as a `LentMut`, which is one more record of the same five.
     fn prepared(&self, window: usize) -> Prepared {
         let lent = Lent {
             internal: &*self.internal,
