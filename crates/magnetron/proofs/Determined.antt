@@ -2,7 +2,7 @@
 -- makes of a function's `ensures`, is the contract itself: no copy of it is written here. Assumes nothing.
 use mathlib.Core.Path.{◌≡◌}
 use Rattle.numbers.specs.Outcome.{Answer, Determined, by_definition, as_follows, outcome}
-use Rattle.magnetron.specs.Single.{SameLoan, AfterWrite, after_write, lent, what_is_lent_to_write}
+use Rattle.magnetron.specs.Single.{SameLoan, AfterWrite, after_write, lent, what_is_lent_to_write, what_is_lent}
 use Rattle.magnetron.specs.declared.lent.LentMut.{LentMut}
 use Rattle.magnetron.specs.declared.write.Wrote.{Wrote}
 use Rattle.magnetron.proofs.buffer.BufferIndex.stage_activity.Reads as stage-activity
@@ -36,6 +36,7 @@ use Rattle.magnetron.proofs.block.scaled.Reads as scaled
 use Rattle.magnetron.proofs.block.write_block.Reads as write-block
 use Rattle.magnetron.proofs.output.mix.Reads as mix
 use Rattle.magnetron.proofs.output.write_sample.Reads as write-sample
+use Rattle.magnetron.proofs.lent.LentMut.shared.Reads as shared
 use Rattle.magnetron.proofs.lent.LentMut.write_1.Reads as write-1
 use Rattle.magnetron.proofs.lent.LentMut.read_0_write_1.Reads as read-0-write-1
 use Rattle.magnetron.proofs.lent.LentMut.read_1_write_1.Reads as read-1-write-1
@@ -90,3 +91,6 @@ write_determined = (
 
 pub read_determined : Answer check-read.Post × Determined (λ r s. r.now) read.Post
 read_determined = (by_definition, by_definition)
+
+pub shared_determined : Determined (λ r s. what_is_lent r) shared.Post
+shared_determined = by_definition
