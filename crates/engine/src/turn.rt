@@ -62,6 +62,7 @@ pub(crate) struct Taken {
 }
 
 // Where an output is written, and how: by its own mark.
+// Stays: the new form is no plainer: one for this and magnetron's `put` would take the same five arguments for one record.
 fn target_of(pools: Pools, marks: Marks, samples: usize, output: BufferIndex, level: f64) -> Target
     requires { base_of pools output ≤ 65536 }
     ensures { result ≡ target_of pools marks samples output level }
@@ -109,7 +110,7 @@ impl Turn<'_> {
     }
 
     // The kind of the stage's own output picks the pool that is written.
-    // Stays: the new form is no plainer: what would lend both pools in their sequence is the same match, which stands in `take` once more.
+    // Stays: the new form is no plainer: what would lend both pools in their sequence is the same match, which stands in `take` and in magnetron's `write_1` once more.
     fn begin(&self, ring: &mut [f64], internal: &mut [f64], external: &mut [f64]) -> Taken
         requires { Ready self.now.pools self.now.window self.now.values.now self.now.stage self.now.marks (owned self.now.state ring.old)
             (pick self.now.stage.output internal.old external.old) (pick self.now.stage.output external.old internal.old) }
