@@ -1,5 +1,6 @@
 -- Checks 5, 8, 6, 7: of one stage, and along the order.
 --     level_lacks, then_others       the levels, and then the other parameters
+--     asks_lack, asks_have           what a check of asks answered
 --     first_fails .. none_fails      what each of them answers
 --     Sound, sound                   the checks of a stage that passed, as facts
 --     passed-named                   naming a stage changes no verdict
@@ -15,7 +16,7 @@ use lib.ListN.{length, get_or, drop}
 use lib.Ieee.{Float}
 use Rattle.order.specs.Order.{runs}
 use Rattle.order.specs.Checks.{unless, first, passed, verdict}
-use Rattle.std.specs.Prelude.{Ok, Err, is_ok, Some}
+use Rattle.std.specs.Prelude.{Ok, Err, is_ok, Some, cond}
 use Rattle.std.specs.Prelude as prelude
 use Rattle.answers.specs.declared.refusal.Reason.{Reason}
 use Rattle.answers.specs.declared.refusal.Reason.TheVariants.{Buffer, Parameter, Clash, Outputs}
@@ -25,13 +26,13 @@ use Rattle.magnetron.specs.Buffers.{cleared}
 use Rattle.magnetron.specs.Checks.{all_there, no_clash, none_twice}
 use Rattle.magnetron.specs.declared.buffer.Marks.{Marks}
 use Rattle.magnetron.specs.declared.pool.Pools.{Pools}
-use Rattle.microwave.specs.Parameter.{looked, reported, all_found}
+use Rattle.microwave.specs.Parameter.{looked, reported, all_found, reason_of}
 use Rattle.microwave.specs.declared.parameter.Ask.{Ask}
 use Rattle.stages.specs.declared.stage.Stage.{Stage}
 use Rattle.stages.specs.declared.window.RenderWindow.{RenderWindow}
 use Rattle.stages.specs.Stage.{inputs_of, outputs_of, asks_of, level_asks}
 use Rattle.engine.specs.Run.{Plan, stage_at, fault_of, named, fault, turned}
-use Rattle.engine.specs.Inside.{returned, reason_of}
+use Rattle.engine.specs.Inside.{returned}
 use Rattle.engine.proofs.Lists.{rest}
 
 found_both : (values : List Float) (seconds : Float) (levels rest : List Ask) → all_found (levels ++ rest) values seconds ≡ (all_found levels values seconds && all_found rest values seconds)
@@ -40,6 +41,15 @@ found_both values seconds [] rest = refl
 found_both values seconds (ask ∷ levels) rest =
     ap (λ (b : Bool). eqb (reported (looked ask values seconds)).number 0 && b) (found_both values seconds levels rest)
     ∙ sym (and_assoc (eqb (reported (looked ask values seconds)).number 0) (all_found levels values seconds) (all_found rest values seconds))
+
+-- what check 6 of some asks answered
+pub asks_lack : (found : Bool) {r : Reason} → Err r ≡ reason_of (cond found none (some Parameter)) → (found ≡ false) × (Err r ≡ reason_of (some Parameter))
+asks_lack true e = absurd (false≢true (ap is_ok e))
+asks_lack false e = (refl, e)
+
+pub asks_have : (found : Bool) → Ok tt ≡ reason_of (cond found none (some Parameter)) → found ≡ true
+asks_have true e = refl
+asks_have false e = absurd (true≢false (ap is_ok e))
 
 module _ (values : List Float) (w : RenderWindow) (t : Stage) where
   abbrev seconds : Float
