@@ -26,7 +26,8 @@ use Rattle.magnetron.specs.Buffers.{cleared}
 use Rattle.magnetron.specs.Checks.{all_there, no_clash, none_twice}
 use Rattle.magnetron.specs.declared.buffer.Marks.{Marks}
 use Rattle.magnetron.specs.declared.pool.Pools.{Pools}
-use Rattle.microwave.specs.Parameter.{looked, reported, all_found, reason_of}
+use Rattle.answers.specs.Refusal.{result_of}
+use Rattle.microwave.specs.Parameter.{looked, reported, all_found}
 use Rattle.microwave.specs.declared.parameter.Ask.{Ask}
 use Rattle.stages.specs.declared.stage.Stage.{Stage}
 use Rattle.stages.specs.declared.window.RenderWindow.{RenderWindow}
@@ -43,11 +44,11 @@ found_both values seconds (ask ∷ levels) rest =
     ∙ sym (and_assoc (eqb (reported (looked ask values seconds)).number 0) (all_found levels values seconds) (all_found rest values seconds))
 
 -- what check 6 of some asks answered
-pub asks_lack : (found : Bool) {r : Reason} → Err r ≡ reason_of (cond found none (some Parameter)) → (found ≡ false) × (Err r ≡ reason_of (some Parameter))
+pub asks_lack : (found : Bool) {r : Reason} → Err r ≡ result_of (cond found none (some Parameter)) → (found ≡ false) × (Err r ≡ result_of (some Parameter))
 asks_lack true e = absurd (false≢true (ap is_ok e))
 asks_lack false e = (refl, e)
 
-pub asks_have : (found : Bool) → Ok tt ≡ reason_of (cond found none (some Parameter)) → found ≡ true
+pub asks_have : (found : Bool) → Ok tt ≡ result_of (cond found none (some Parameter)) → found ≡ true
 asks_have true e = refl
 asks_have false e = absurd (true≢false (ap is_ok e))
 
@@ -79,26 +80,26 @@ module _ (p : Pools) (w : RenderWindow) (values : List Float) (t : Stage) (m : M
   abbrev clear : Bool
   clear = no_clash w.buffer_len (inputs_of t.kind) (outputs_of t) m
 
-  pub first_fails : there ≡ false → Err Buffer ≡ reason_of (fault_of p w values t m)
+  pub first_fails : there ≡ false → Err Buffer ≡ result_of (fault_of p w values t m)
   unfolding fault_of
   first_fails a = rw a refl
 
   module _ (a : there ≡ true) where
-    pub second_fails : differing ≡ false → Err Outputs ≡ reason_of (fault_of p w values t m)
+    pub second_fails : differing ≡ false → Err Outputs ≡ result_of (fault_of p w values t m)
     unfolding fault_of
     second_fails b = rw (a, b) refl
 
     module _ (b : differing ≡ true) where
-      pub third_fails : found ≡ false → Err Parameter ≡ reason_of (fault_of p w values t m)
+      pub third_fails : found ≡ false → Err Parameter ≡ result_of (fault_of p w values t m)
       unfolding fault_of
       third_fails c = rw (a, b, c) refl
 
       module _ (c : found ≡ true) where
-        pub fourth_fails : clear ≡ false → Err Clash ≡ reason_of (fault_of p w values t m)
+        pub fourth_fails : clear ≡ false → Err Clash ≡ result_of (fault_of p w values t m)
         unfolding fault_of
         fourth_fails d = rw (a, b, c, d) refl
 
-        pub none_fails : clear ≡ true → Ok tt ≡ reason_of (fault_of p w values t m)
+        pub none_fails : clear ≡ true → Ok tt ≡ result_of (fault_of p w values t m)
         unfolding fault_of
         none_fails d = rw (a, b, c, d) refl
 
@@ -127,7 +128,7 @@ passed-named stage (some r) = refl
 
 -- ---- along the order
 
-named_stop : (stage : prelude.Option ℕ) (o : Option Reason) (q : Option Refusal) {r : Reason} → Err r ≡ reason_of o → Err (record { reason = r; stage = stage }) ≡ returned (first (named stage o) q)
+named_stop : (stage : prelude.Option ℕ) (o : Option Reason) (q : Option Refusal) {r : Reason} → Err r ≡ result_of o → Err (record { reason = r; stage = stage }) ≡ returned (first (named stage o) q)
 named_stop stage none q e = absurd (false≢true (ap is_ok e))
 named_stop stage (some r) q e = cc
 
@@ -135,7 +136,7 @@ pub named_go : (stage : prelude.Option ℕ) (o : Option Reason) (q : Option Refu
 named_go stage none q e = refl
 named_go stage (some r) q e = absurd (false≢true e)
 
-pub sound_of : (o : Option Reason) → Ok tt ≡ reason_of o → passed o ≡ true
+pub sound_of : (o : Option Reason) → Ok tt ≡ result_of o → passed o ≡ true
 sound_of none e = refl
 sound_of (some r) e = absurd (true≢false (ap is_ok e))
 
@@ -146,11 +147,11 @@ module _ (P : Plan) (ks : List ℕ) (j : ℕ) (m : Marks) {v : Option Refusal} (
   now : j < length ks → first (fault P (get_or ks j 0) m) (verdict (fault P) (turned P) (drop (j + 1) ks) (turned P (get_or ks j 0) m)) ≡ v
   now h = rest (λ (l : List ℕ). verdict (fault P) (turned P) l m) ks j e h
 
-  pub stages_stop : {r : Reason} → j < length ks → Err r ≡ reason_of here → Err (record { reason = r; stage = Some (get_or ks j 0) }) ≡ returned v
+  pub stages_stop : {r : Reason} → j < length ks → Err r ≡ result_of here → Err (record { reason = r; stage = Some (get_or ks j 0) }) ≡ returned v
   unfolding fault
   stages_stop h q = named_stop (Some (get_or ks j 0)) here _ q ∙ ap returned (now h)
 
-  pub stages_go : (m' : Marks) → j < length ks → Ok tt ≡ reason_of here → m' ≡ runs cleared (outputs_of (stage_at P (get_or ks j 0))) m
+  pub stages_go : (m' : Marks) → j < length ks → Ok tt ≡ result_of here → m' ≡ runs cleared (outputs_of (stage_at P (get_or ks j 0))) m
       → verdict (fault P) (turned P) (drop (j + 1) ks) m' ≡ v
   unfolding fault turned
   stages_go m' h q f = rw f (sym (named_go (Some (get_or ks j 0)) here _ (sound_of here q)) ∙ now h)

@@ -30,7 +30,7 @@ use Rattle.engine.specs.Run.{Plan, World, sounded, heard_of, played, all_below, 
 
 -- ---- answers
 
--- done, or a refusal with its stage; of one stage the reason says all: microwave's `reason_of`
+-- done, or a refusal with its stage; of one stage the reason says all: answers' `result_of`
 abbrev pub returned : Option Refusal → Result ⊤ Refusal
 returned none = Ok tt
 returned (some r) = Err r

@@ -2,9 +2,8 @@
 // Rests on magnetron's checks of pools and buffers, and on microwave's look-up of parameters.
 ghost use Rattle.std.specs.Prelude.{◌≡◌, true, [], ◌≤◌};
 ghost use Rattle.order.specs.Checks.{verdict};
-ghost use Rattle.answers.specs.Refusal.{verdict_of};
+ghost use Rattle.answers.specs.Refusal.{result_of, verdict_of};
 ghost use Rattle.magnetron.specs.Pools.{marks_in};
-ghost use Rattle.microwave.specs.Parameter.{reason_of};
 ghost use Rattle.engine.specs.Run.{all_below, holds, orderly, entry, fault_of, fault, turned, judged};
 ghost use Rattle.engine.specs.Inside.{returned, plan_in, world_in};
 
@@ -74,7 +73,7 @@ fn check_entry(records: &Records, lent: &Lent) -> Verdict
 
 // Checks 5, 8, 6, 7 of one stage at its turn.
 fn check_stage(records: &Records, stage: Stage, marks: Marks, values: &[f64]) -> Result<(), Reason>
-    ensures { result ≡ reason_of (fault_of records.now.pools records.now.window values.now stage marks) }
+    ensures { result ≡ result_of (fault_of records.now.pools records.now.window values.now stage marks) }
 {
     let window = records.window;
     let inputs = stage.kind.inputs();

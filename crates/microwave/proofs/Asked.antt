@@ -3,7 +3,8 @@ use Rattle.std.proofs.Common.{◌≡◌, ◌≢◌, ℕ, ◌+◌, ◌<◌, ◌�
 use Rattle.std.proofs.Math.ListN.{drop_of_length-le}
 use Rattle.std.proofs.Math.Seq.{drop-cons}
 use lib.Ieee.{Float}
-use Rattle.microwave.specs.Parameter.{looked, required, of_pair, ask_list, all_found, asks_refused, reason_of}
+use Rattle.answers.specs.Refusal.{result_of}
+use Rattle.microwave.specs.Parameter.{looked, required, of_pair, ask_list, all_found, asks_refused}
 use Rattle.answers.specs.declared.refusal.Reason.TheVariants as reason
 use Rattle.microwave.specs.declared.parameter.Parameter.{Parameter}
 use Rattle.microwave.specs.declared.parameter.Parameter.TheVariants.{Fixed, Slot, WindowSeconds, Absent}
@@ -59,8 +60,8 @@ module _ (values : List Float) (seconds : Float) where
   none_left asks i h = rw (drop_of_length-le asks h) refl
 
   -- what check 6 answers then
-  pub lacks : (asks : List Ask) → all_found asks values seconds ≡ false → Err reason.Parameter ≡ reason_of (asks_refused asks values seconds)
+  pub lacks : (asks : List Ask) → all_found asks values seconds ≡ false → Err reason.Parameter ≡ result_of (asks_refused asks values seconds)
   lacks asks e = rw e refl
 
-  pub has_all : (asks : List Ask) → all_found asks values seconds ≡ true → Ok tt ≡ reason_of (asks_refused asks values seconds)
+  pub has_all : (asks : List Ask) → all_found asks values seconds ≡ true → Ok tt ≡ result_of (asks_refused asks values seconds)
   has_all asks e = rw e refl

@@ -1,5 +1,5 @@
 -- The number that stands for a parameter in a window, and check 6 where there is none (01, "Buffers"). Assumes nothing.
-use Rattle.std.specs.Prelude.{ℕ, ◌≤◌, Bool, true, cond, ◌&&◌, List, [], ◌∷◌, length, ◌==◌, slice_index_or, slice_get, Option, Some, None, Result, Ok, Err, ⊤, Float}
+use Rattle.std.specs.Prelude.{ℕ, ◌≤◌, Bool, true, cond, ◌&&◌, List, [], ◌∷◌, length, ◌==◌, slice_index_or, slice_get, Option, Some, None, Float}
 use Rattle.std.proofs.Math.Option as found
 use Rattle.answers.specs.declared.refusal.Reason.{Reason}
 use Rattle.answers.specs.declared.refusal.Reason.TheVariants as reason
@@ -70,11 +70,6 @@ all_found (ask ∷ asks) values seconds = (reported (looked ask values seconds))
 -- check 6 of them: nothing, or what refuses
 abbrev pub asks_refused : List Ask → List Float → Float → found.Option Reason
 asks_refused asks values seconds = cond (all_found asks values seconds) found.none (found.some reason.Parameter)
-
--- what such a check answers: done, or what refuses
-abbrev pub reason_of : found.Option Reason → Result ⊤ Reason
-reason_of found.none = Ok tt
-reason_of (found.some r) = Err r
 
 -- the number found, 0.0 where there is none
 abbrev pub number_for : Ask → List Float → Float → Float

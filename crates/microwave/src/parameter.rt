@@ -1,6 +1,7 @@
 // A stage's parameter, and the number that stands for it in a window: what the Rust has automation traits for. Rests on the reasons of a refusal.
 ghost use Rattle.std.specs.Prelude.{◌≡◌};
-ghost use Rattle.microwave.specs.Parameter.{looked, required as requiredAsk, or_zero, or_one, of_pair, ask_list, ask_at, asks_refused, reason_of, number_for, numbers_of};
+ghost use Rattle.answers.specs.Refusal.{result_of};
+ghost use Rattle.microwave.specs.Parameter.{looked, required as requiredAsk, or_zero, or_one, of_pair, ask_list, ask_at, asks_refused, number_for, numbers_of};
 
 use answers::refusal::Reason;
 
@@ -90,7 +91,7 @@ pub fn of_pair(level: Parameter, other: Parameter) -> Ask
 
 // Check 6 of some asks: refused where one has no number.
 fn check_each<const N: usize>(asks: [Ask; N], values: &[f64], seconds: f64) -> Result<(), Reason>
-    ensures { result ≡ reason_of (asks_refused asks.entry values.now seconds) }
+    ensures { result ≡ result_of (asks_refused asks.entry values.now seconds) }
 {
     for ask in &asks {
         let Some(_) = lookup(*ask, values, seconds) else {
@@ -102,7 +103,7 @@ fn check_each<const N: usize>(asks: [Ask; N], values: &[f64], seconds: f64) -> R
 
 // Check 6: refused where an ask has no number.
 pub fn check_asks(asks: Asks, values: &[f64], seconds: f64) -> Result<(), Reason>
-    ensures { result ≡ reason_of (asks_refused (ask_list asks) values.now seconds) }
+    ensures { result ≡ result_of (asks_refused (ask_list asks) values.now seconds) }
 {
     match asks {
         Asks::Nothing => check_each([], values, seconds),
