@@ -15,7 +15,7 @@ use crate::sample::{INFINITY, ONE, SIGN, Sample, Sign, sign_of};
 const MOST: u64 = 4_294_967_295;
 
 // The six figures, in document 02's order, and the last sign that was met, to which the next one is held.
-#[derive(Clone, Copy)]
+#[derive(Clone, Copy, Default)]
 pub struct Report {
     pub samples: u64,
     pub nans: u64,
@@ -31,15 +31,7 @@ impl Report {
     pub fn new() -> Report
         ensures { result ≡ no_samples }
     {
-        Report {
-            samples: 0,
-            nans: 0,
-            infinities: 0,
-            above_one: 0,
-            sign_changes: 0,
-            largest: 0,
-            last: Sign::Neither,
-        }
+        Report::default()
     }
 
     // A stretch of samples more, of any length; refused where a count could pass 4,294,967,295. A refusal leaves the report as it is.

@@ -39,8 +39,9 @@ impl Sample for [u8; 8] {
 }
 
 // Zeros and NaNs have neither.
-#[derive(Clone, Copy, PartialEq, Eq)]
+#[derive(Clone, Copy, PartialEq, Eq, Default)]
 pub enum Sign {
+    #[default]
     Neither,
     Positive,
     Negative,
