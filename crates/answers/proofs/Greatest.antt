@@ -3,7 +3,7 @@
 -- Assumes nothing.
 use mathlib.Core.Path.{◌≡◌, refl, sym, ap, ◌∙◌}
 use mathlib.Core.Bool.{Bool, true, false, cond}
-use Prim.Native.Nat.{ℕ, zero, suc, ◌<◌, ◌≤◌, max}
+use Prim.Native.Nat.{ℕ, zero, suc, max}
 use native.Mathlib.Omega.{arith}
 use lib.Dec.{ltb, ltb→lt, nltb→le}
 use Rattle.answers.specs.Activity.{rank_of, greater_of}
@@ -44,10 +44,3 @@ greater_assoc a b c =
 
 pub greater_neutral : (a : StageActivity) → greater_of Exhausted a ≡ a
 greater_neutral a = rank_one (greater_of Exhausted a) a (omega (arith, rank_greater Exhausted a))
-
--- what a comparison of the ranks tells
-pub greater_right : (a b : StageActivity) → rank_of a < rank_of b → b ≡ greater_of a b
-greater_right a b h = rank_one b (greater_of a b) (omega (arith, rank_greater a b))
-
-pub greater_left : (a b : StageActivity) → rank_of b ≤ rank_of a → a ≡ greater_of a b
-greater_left a b h = rank_one a (greater_of a b) (omega (arith, rank_greater a b))

@@ -32,6 +32,11 @@ abbrev pub stage_number : Option ℕ → ℕ
 stage_number None = 32
 stage_number (Some k) = k
 
+-- what a check answers: done where it finds nothing
+abbrev pub result_of : {E : Type 0} → found.Option E → Result ⊤ E
+result_of found.none = Ok tt
+result_of (found.some r) = Err r
+
 -- what checks answer that name no stage: done where none refuses
 unfoldable pub verdict_of : found.Option Reason → Result ⊤ Refusal
 verdict_of found.none = Ok tt

@@ -16,12 +16,7 @@ impl From<StageActivity> for u8 {
     ghost from_gives = { λ a n. n ≡ rank_of a };
 
     fn from(activity: StageActivity) -> u8 {
-        match activity {
-            StageActivity::Exhausted => 0,
-            StageActivity::Internal => 1,
-            StageActivity::External => 2,
-            StageActivity::Observer => 3,
-        }
+        activity as u8
     }
 }
 

@@ -1,7 +1,7 @@
 // Why a call is refused, and at which stage; and what a call that may be refused answers.
 ghost use Rattle.std.specs.Prelude.{◌≡◌, None};
 ghost use Rattle.order.specs.Checks.{unless};
-ghost use Rattle.answers.specs.Refusal.{number_of, verdict_of, told_of, activity_of};
+ghost use Rattle.answers.specs.Refusal.{number_of, result_of, verdict_of, told_of, activity_of};
 
 use crate::activity::StageActivity;
 
@@ -9,21 +9,21 @@ use crate::activity::StageActivity;
 #[derive(Clone, Copy, PartialEq, Eq)]
 pub enum Reason {
     // A count or a capacity is over its bound, or what is lent has another length, or the zeros are none.
-    Bounds,
+    Bounds = 1,
     // The window is too long, or the lent values are not as many as it has samples.
-    Window,
+    Window = 2,
     // The order names a stage that isn't there or names one twice, or is too long.
-    Order,
+    Order = 3,
     // A ring has a bad length, or its position or the lent rings do not fit it.
-    Ring,
+    Ring = 4,
     // A buffer that isn't there.
-    Buffer,
+    Buffer = 5,
     // A parameter that gives no number.
-    Parameter,
+    Parameter = 6,
     // An output that is also an input, and is not stale.
-    Clash,
+    Clash = 7,
     // Both outputs are one buffer.
-    Outputs,
+    Outputs = 8,
 }
 
 // Its number in documents 01 and 02.
@@ -31,16 +31,7 @@ impl From<Reason> for usize {
     ghost from_gives = { λ reason n. n ≡ number_of reason };
 
     fn from(reason: Reason) -> usize {
-        match reason {
-            Reason::Bounds => 1,
-            Reason::Window => 2,
-            Reason::Order => 3,
-            Reason::Ring => 4,
-            Reason::Buffer => 5,
-            Reason::Parameter => 6,
-            Reason::Clash => 7,
-            Reason::Outputs => 8,
-        }
+        reason as usize
     }
 }
 
@@ -69,15 +60,23 @@ impl From<Reason> for Refusal {
     }
 }
 
+// A refusal of any sort where the test fails.
+pub fn unless<E: Drop>(passed: bool, refusal: E) -> Result<(), E>
+    ensures { result ≡ result_of (unless passed refusal) }
+{
+    if passed { Ok(()) } else { Err(refusal) }
+}
+
 // A refusal for this reason where the test fails.
 #[tactic(auto, unfolding(crate::specs::Refusal::verdict_of))]
 pub fn refusal_unless(passed: bool, reason: Reason) -> Verdict
     ensures { result ≡ verdict_of (unless passed reason) }
 {
-    if passed { Ok(()) } else { Err(reason.into()) }
+    unless(passed, reason.into())
 }
 
-// An answer by the document's numbers: 0 and 32, or a refusal's number and its stage, 32 where it names none.
+// An answer by the documents' numbers: 0 and 32, or a refusal's number and its stage, 32 where it names none.
+// Stays: the C interface, grynnadot_check_read and grynnadot_advance, answers a number and a stage.
 #[repr(C)]
 #[derive(Clone, Copy, PartialEq, Eq)]
 pub struct Told {

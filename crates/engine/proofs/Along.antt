@@ -37,11 +37,11 @@ use Rattle.stages.specs.declared.state.State.{State}
 use Rattle.stages.specs.Stage.{Own, own, ring_fine}
 use Rattle.stages.specs.Rings.{no_state, len_in, ring_at, fine_in}
 use Rattle.stages.specs.Reach.{all_within}
-use Rattle.stages.specs.Inside.{Bounded, starts_of}
-use Rattle.stages.proofs.EndToEnd.{fine-at, sum_step, starts_at, part_put}
+use Rattle.stages.specs.Inside.{starts_of}
+use Rattle.stages.proofs.EndToEnd.{sum_step, starts_at, part_put}
 use Rattle.stages.proofs.Positions.{position_stays}
 use Rattle.engine.specs.Run.{Plan, World, stage_at, outs_at, shape_in, own_of, played_at, put_played, staged, louder, fault, turned, fault_of, told_of, reaches}
-use Rattle.engine.specs.Inside.{world_with, Admitted, Passed, Ready, Turned}
+use Rattle.engine.specs.Inside.{world_with, Passed, Ready, Turned}
 use Rattle.engine.proofs.Lists.{next_of, rest, last}
 use Rattle.engine.proofs.Faults.{passed-named}
 use Rattle.engine.proofs.Told.{telling, told_all}
@@ -97,9 +97,6 @@ pub held_whole : (p : Pools) (o : BufferIndex) (internal external : List Float) 
 held_whole p (External k) internal external n h = h
 held_whole p (Internal k) internal external n h = h
 
-pub bounded : {P : Plan} {ks : List ℕ} {w : World} → Admitted P ks w → Bounded P.patch
-bounded {P} {ks} {w} ok = record { few = ok.few; each = λ k h. fine-at P.patch w.states k (ok.fine k h) }
-
 -- ---- a stage whose turn it is
 
 module _ {P : Plan} {k : ℕ} {ks : List ℕ} {w : World} (ok : Passed P (k ∷ ks) w) where
@@ -111,9 +108,6 @@ module _ {P : Plan} {k : ℕ} {ks : List ℕ} {w : World} (ok : Passed P (k ∷ 
 
   pub ring-lies : ring_at P.patch k + len_in P.patch k ≤ length w.rings
   ring-lies = le_trans (sum_step (len_in P.patch) k P.patch.count stage-there) ok.admitted.roomy
-
-  pub ring_small : len_in P.patch k ≤ 32768
-  ring_small = fine-at P.patch w.states k (ok.admitted.fine k stage-there)
 
   ring_long : length (own_of P k w).ring ≡ len_in P.patch k
   unfolding own_of
@@ -203,36 +197,29 @@ pub record Along (P : Plan) (ks : List ℕ) (w₀ w : World) (a : StageActivity)
   pub external : length w.banks.external.samples ≡ length w₀.banks.external.samples
   pub rings : length w.rings ≡ length w₀.rings
 
-module _ {P : Plan} {ks : List ℕ} {w₀ : World} where
-  pub along_start : Passed P ks w₀ → Along P ks w₀ w₀ Exhausted all_within.stages 0
-  along_start ok = record { still = ok; world = refl; loud = refl; told = refl; long = refl; internal = refl; external = refl; rings = refl }
+module _ {P : Plan} {ks : List ℕ} {w₀ w : World} {a : StageActivity} {t : List Reach} {j : ℕ} (v : Along P ks w₀ w a t j) where
+  pub along_here : j < length ks → Passed P (get_or ks j 0 ∷ drop (j + 1) ks) w
+  along_here h = subst (λ (l : List ℕ). Passed P l w) (next_of ks j h) v.still
 
-  module _ {w : World} {a : StageActivity} {t : List Reach} {j : ℕ} (v : Along P ks w₀ w a t j) where
-    pub along_here : j < length ks → Passed P (get_or ks j 0 ∷ drop (j + 1) ks) w
-    along_here h = subst (λ (l : List ℕ). Passed P l w) (next_of ks j h) v.still
+  pub along_more : (w' : World) (a' : StageActivity) (r : Reach) → j < length ks → w' ≡ staged P (get_or ks j 0) w → a' ≡ runs louder_by (outs_at P (get_or ks j 0)) a
+      → r ≡ told_of P.window P.values (stage_at P (get_or ks j 0)) → Along P ks w₀ w' a' (set t (get_or ks j 0) r) (j + 1)
+  unfolding staged put_played louder
+  along_more w' a' r h e f g =
+      rw (e, f, g)
+      (record {
+        still = passed-staged (along_here h);
+        world = rest (λ (l : List ℕ). runs (staged P) l w) ks j v.world h;
+        loud = rest (λ (l : List ℕ). runs (louder P) l a) ks j v.loud h;
+        told = rest (λ (l : List ℕ). runs (telling P) l t) ks j v.told h;
+        long = rw length-set v.long;
+        internal = writes-internal (shape_in P) (pairs (outs_at P (get_or ks j 0)) (played_at P (get_or ks j 0) w).outs) w.banks ∙ v.internal;
+        external = writes-external (shape_in P) (pairs (outs_at P (get_or ks j 0)) (played_at P (get_or ks j 0) w).outs) w.banks ∙ v.external;
+        rings = rw length-sets v.rings;
+      })
 
-    pub stage-below : j < length ks → get_or ks j 0 < 32
-    stage-below h = omega (arith, stage-there (along_here h), v.still.admitted.few)
-
-    pub along_more : (w' : World) (a' : StageActivity) (r : Reach) → j < length ks → w' ≡ staged P (get_or ks j 0) w → a' ≡ runs louder_by (outs_at P (get_or ks j 0)) a
-        → r ≡ told_of P.window P.values (stage_at P (get_or ks j 0)) → Along P ks w₀ w' a' (set t (get_or ks j 0) r) (j + 1)
-    unfolding staged put_played louder
-    along_more w' a' r h e f g =
-        rw (e, f, g)
-        (record {
-          still = passed-staged (along_here h);
-          world = rest (λ (l : List ℕ). runs (staged P) l w) ks j v.world h;
-          loud = rest (λ (l : List ℕ). runs (louder P) l a) ks j v.loud h;
-          told = rest (λ (l : List ℕ). runs (telling P) l t) ks j v.told h;
-          long = rw length-set v.long;
-          internal = writes-internal (shape_in P) (pairs (outs_at P (get_or ks j 0)) (played_at P (get_or ks j 0) w).outs) w.banks ∙ v.internal;
-          external = writes-external (shape_in P) (pairs (outs_at P (get_or ks j 0)) (played_at P (get_or ks j 0) w).outs) w.banks ∙ v.external;
-          rings = rw length-sets v.rings;
-        })
-
-    pub along_end : length ks ≤ j → (w ≡ runs (staged P) ks w₀) × (a ≡ runs (louder P) ks Exhausted) × (t ≡ reaches P ks)
-    along_end h = (
-      last (λ (l : List ℕ). runs (staged P) l w) ks j v.world h,
-      last (λ (l : List ℕ). runs (louder P) l a) ks j v.loud h,
-      last (λ (l : List ℕ). runs (telling P) l t) ks j v.told h ∙ told_all P ks,
-    )
+  pub along_end : length ks ≤ j → (w ≡ runs (staged P) ks w₀) × (a ≡ runs (louder P) ks Exhausted) × (t ≡ reaches P ks)
+  along_end h = (
+    last (λ (l : List ℕ). runs (staged P) l w) ks j v.world h,
+    last (λ (l : List ℕ). runs (louder P) l a) ks j v.loud h,
+    last (λ (l : List ℕ). runs (telling P) l t) ks j v.told h ∙ told_all P ks,
+  )

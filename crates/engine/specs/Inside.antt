@@ -3,7 +3,6 @@ use Rattle.std.specs.Prelude.{◌≡◌, true, List, [], ◌∷◌, ◌++◌, �
 use Rattle.std.proofs.Math.Option.{Option, none, some}
 use Rattle.order.specs.Order.{Among, runs}
 use Rattle.order.specs.Checks.{passed, verdict}
-use Rattle.answers.specs.declared.refusal.Reason.{Reason}
 use Rattle.answers.specs.declared.refusal.Refusal.{Refusal}
 use Rattle.magnetron.specs.Buffers.{pick, Banks, write, pairs, marks_of, stale_at}
 use Rattle.magnetron.specs.Pools.{marks_in, base_of, shape_of, banks_of}
@@ -31,15 +30,10 @@ use Rattle.engine.specs.Run.{Plan, World, sounded, heard_of, played, all_below, 
 
 -- ---- answers
 
--- done, or a refusal with its stage
+-- done, or a refusal with its stage; of one stage the reason says all: answers' `result_of`
 abbrev pub returned : Option Refusal → Result ⊤ Refusal
 returned none = Ok tt
 returned (some r) = Err r
-
--- the same of one stage, where the reason says all
-abbrev pub reason_of : Option Reason → Result ⊤ Reason
-reason_of none = Ok tt
-reason_of (some r) = Err r
 
 -- ---- what is given by value, with what is lent
 

@@ -2,15 +2,15 @@
 // Rests on magnetron's checks of pools and buffers, and on microwave's look-up of parameters.
 ghost use Rattle.std.specs.Prelude.{◌≡◌, true, [], ◌≤◌};
 ghost use Rattle.order.specs.Checks.{verdict};
-ghost use Rattle.answers.specs.Refusal.{verdict_of};
+ghost use Rattle.answers.specs.Refusal.{result_of, verdict_of};
 ghost use Rattle.magnetron.specs.Pools.{marks_in};
 ghost use Rattle.engine.specs.Run.{all_below, holds, orderly, entry, fault_of, fault, turned, judged};
-ghost use Rattle.engine.specs.Inside.{returned, reason_of, plan_in, world_in};
+ghost use Rattle.engine.specs.Inside.{returned, plan_in, world_in};
 
 use crate::records::{Lent, Records};
 use answers::refusal::{Reason, Refusal, Verdict, refusal_unless};
 use magnetron::buffer::Marks;
-use microwave::parameter::all_found;
+use microwave::parameter::check_asks;
 use stages::stage::Stage;
 
 // Whether a number stands in the rest of an order.
@@ -73,7 +73,7 @@ fn check_entry(records: &Records, lent: &Lent) -> Verdict
 
 // Checks 5, 8, 6, 7 of one stage at its turn.
 fn check_stage(records: &Records, stage: Stage, marks: Marks, values: &[f64]) -> Result<(), Reason>
-    ensures { result ≡ reason_of (fault_of records.now.pools records.now.window values.now stage marks) }
+    ensures { result ≡ result_of (fault_of records.now.pools records.now.window values.now stage marks) }
 {
     let window = records.window;
     let inputs = stage.kind.inputs();
@@ -84,12 +84,8 @@ fn check_stage(records: &Records, stage: Stage, marks: Marks, values: &[f64]) ->
     if !outputs.differ() {
         return Err(Reason::Outputs);
     }
-    if !all_found(stage.level_asks(), values, window.render_window_secs) {
-        return Err(Reason::Parameter);
-    }
-    if !all_found(stage.kind.asks(), values, window.render_window_secs) {
-        return Err(Reason::Parameter);
-    }
+    check_asks(stage.level_asks(), values, window.render_window_secs)?;
+    check_asks(stage.kind.asks(), values, window.render_window_secs)?;
     if !outputs.clear_of(window.buffer_len, inputs, marks) {
         return Err(Reason::Clash);
     }

@@ -17,6 +17,7 @@ use stages::state::States;
 use stages::window::render_window;
 
 // What a run answers, with the records that it hands back, and whether each string reached its note.
+// Stays: what may not change: by `after_by` a refusal has beside it the records as they came (01: "every record .. is unchanged"), and "within" by stage (02, Five).
 #[derive(Clone, Copy)]
 pub struct Ran {
     pub answer: Answer,
@@ -26,6 +27,7 @@ pub struct Ran {
 }
 
 // The stages along the order, once the checks have passed.
+// Stays: the new form is no plainer: `run` alone calls it, and a record of what it changes would be made there and taken apart here.
 fn run_order(
     records: &Records,
     order: &[u8],
@@ -77,7 +79,7 @@ fn run_order(
 
 // A run of n samples, each `width` seconds wide. Answers the greatest activity, or the first refusal; and by stage number whether the last sample
 // of its string was within its ring.
-// Stays: the new form is no plainer: a caller has each of these by itself, as C hands them to `grynnadot_run`, and would put them into a record for this one call.
+// Stays: the new form is no plainer: host and rendersaw, two of the three callers, have each of these by itself, as C hands them to `grynnadot_run`, and would make a record for this one call.
 pub fn run(
     patch: Patch,
     order: &[u8],

@@ -23,6 +23,7 @@ use stages::window::RenderWindow;
 use util::reach::Reach;
 
 // Where the loop that writes `output` finds the inputs.
+// Stays: the new form is no plainer: magnetron's `put` takes inputs apart too, but into what a single write puts, so that one match for both would hand on what neither asks for.
 fn sources(inputs: Inputs, pools: Pools, marks: Marks, output: BufferIndex) -> Sources
     requires { Placed pools (list_of inputs) }
     ensures { result ≡ sources_of pools marks output (list_of inputs) }
@@ -62,6 +63,7 @@ pub(crate) struct Taken {
 }
 
 // Where an output is written, and how: by its own mark.
+// Stays: the new form is no plainer: one for this and magnetron's `put` would take the same five arguments for one record.
 fn target_of(pools: Pools, marks: Marks, samples: usize, output: BufferIndex, level: f64) -> Target
     requires { base_of pools output ≤ 65536 }
     ensures { result ≡ target_of pools marks samples output level }
@@ -109,7 +111,7 @@ impl Turn<'_> {
     }
 
     // The kind of the stage's own output picks the pool that is written.
-    // Stays: the new form is no plainer: what would lend both pools in their sequence is the same match, which stands in `take` once more.
+    // Stays: the new form is no plainer: what would lend both pools in their sequence is the same match, which stands in `take` and in magnetron's `write_1` once more.
     fn begin(&self, ring: &mut [f64], internal: &mut [f64], external: &mut [f64]) -> Taken
         requires { Ready self.now.pools self.now.window self.now.values.now self.now.stage self.now.marks (owned self.now.state ring.old)
             (pick self.now.stage.output internal.old external.old) (pick self.now.stage.output external.old internal.old) }

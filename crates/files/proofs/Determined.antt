@@ -8,6 +8,7 @@ use Rattle.files.specs.File.{ReadPatch}
 use Rattle.files.specs.declared.fault.Fault.{Fault}
 use Rattle.files.specs.declared.fault.FaultReason.{FaultReason}
 use Rattle.files.specs.declared.fault.FaultReason.TheVariants.{EndsEarly, OtherVersion, Unknown, TooLarge, LeftOver, TooManyStages}
+use Rattle.files.proofs.fault.UsizeFromFaultReason.from.Reads as number-of
 use Rattle.files.proofs.patch.read_patch.Reads as read-patch
 use Rattle.files.proofs.patch.empty.Reads as empty
 
@@ -35,3 +36,6 @@ and_back (Err fault) = by fault.reason fault.offset
 
 pub read_determined : Answer read-patch.Post × Answer empty.Post
 read_determined = (as_follows (λ κs a r s post. and_back r ∙ ap from_numbers post), by_definition)
+
+pub number_determined : Answer number-of.Post
+number_determined = by_definition

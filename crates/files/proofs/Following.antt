@@ -16,16 +16,23 @@ passed (said a at) next then-on both e = e a at
 passed (refused number offset) next then-on both e = refl
 
 module _ {A B : Type 0} (part : Reader A) (next : A → Reader B) where
-  -- a part that said something, and from where it was read to, in the same bytes, the next one
-  pub then : (bytes same : Bor (List ℕ)) (at after : ℕ) (a : A) (answer : Part B) → said a after ≡ part bytes.now at → same ≡ bytes
-      → answer ≡ next a same.now after → answer ≡ (part >>= next) bytes.now at
-  unfolding followed ◌>>=◌
-  then bytes same at after a answer e f g = rw (← e, ← f) g
+  -- one part and then the next: what a part told, be it said or refused, and what follows it
+  pub then : (bytes : List ℕ) (at after : ℕ) (r : Result A Fault) (answer : Part B) → told r after ≡ part bytes at
+      → answer ≡ followed (told r after) (λ a at. next a bytes at) → answer ≡ (part >>= next) bytes at
+  unfolding ◌>>=◌
+  then bytes at after r answer e g = rw (← e) g
 
-  -- a part that was refused
-  pub stop : (bytes : List ℕ) (at number offset : ℕ) → refused number offset ≡ part bytes at → refused number offset ≡ (part >>= next) bytes at
-  unfolding followed ◌>>=◌
-  stop bytes at number offset e = rw (← e) refl
+  -- a part that said something, and from where it was read to, in the same bytes, the next one
+  pub onward : (bytes same : Bor (List ℕ)) (at after : ℕ) (a : A) (answer : Part B) → said a after ≡ part bytes.now at → same ≡ bytes
+      → answer ≡ next a same.now after → answer ≡ (part >>= next) bytes.now at
+  unfolding followed
+  onward bytes same at after a answer e f g = then bytes.now at after (Ok a) answer e (rw (← f) g)
+
+  -- a part that was refused, and no next one
+  pub stop : (bytes : List ℕ) (at : ℕ) (f : Fault) → refused (fault_number f.reason) f.offset ≡ part bytes at
+      → refused (fault_number f.reason) f.offset ≡ (part >>= next) bytes at
+  unfolding followed
+  stop bytes at f e = then bytes at at (Err f) _ e refl
 
 -- what a fault tells that was handed on
 pub handed : {A : Type 0} (r : Result A Fault) (f : Fault) (at : ℕ) → IsErrAnd r (λ e. e ≡ f) → told r at ≡ refused (fault_number f.reason) f.offset

@@ -6,17 +6,17 @@ ghost use Rattle.files.specs.Fault.{fault_number, unless};
 #[derive(Clone, Copy, PartialEq, Eq)]
 pub enum FaultReason {
     // The bytes end inside a number or inside eight bytes, or where one of these would begin.
-    EndsEarly,
+    EndsEarly = 20,
     // The version is not 1.
-    OtherVersion,
+    OtherVersion = 21,
     // No kind, choice or parameter mark has that number.
-    Unknown,
+    Unknown = 22,
     // A number is too large, or has more than five bytes.
-    TooLarge,
+    TooLarge = 23,
     // Bytes follow the last stage.
-    LeftOver,
+    LeftOver = 24,
     // There are more than 32 stages.
-    TooManyStages,
+    TooManyStages = 25,
 }
 
 // Its number in document 02.
@@ -24,14 +24,7 @@ impl From<FaultReason> for usize {
     ghost from_gives = { λ reason n. n ≡ fault_number reason };
 
     fn from(reason: FaultReason) -> usize {
-        match reason {
-            FaultReason::EndsEarly => 20,
-            FaultReason::OtherVersion => 21,
-            FaultReason::Unknown => 22,
-            FaultReason::TooLarge => 23,
-            FaultReason::LeftOver => 24,
-            FaultReason::TooManyStages => 25,
-        }
+        reason as usize
     }
 }
 

@@ -10,6 +10,7 @@ use words::reader::Cursor;
 const LARGEST: usize = 4_294_967_295;
 
 // The file's bytes, and the offset of what is read next. After a fault the offset says nothing: no more is read.
+// Stays: `kept` stands in each contract, not as an invariant, since it is said of a change: that a part leaves the same bytes for the next one.
 #[derive(Clone, Copy)]
 pub(crate) struct Reading<'a> {
     pub bytes: &'a [u8],
@@ -64,6 +65,7 @@ impl<'a> Reading<'a> {
     }
 
     // A number where there is one, else 0 with nothing read.
+    // Stays: no plainer as one generic with `eight_if` and `parameter_if`: it would take a closure, and its contract would be about any part's definition.
     pub(crate) fn number_if(&mut self, there: bool) -> Result<usize, Fault>
         ensures said { told result self.new.offset ≡ if_there there 0 number self.old.bytes.now self.old.offset }
         ensures kept { self.new.bytes ≡ self.old.bytes }

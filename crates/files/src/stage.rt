@@ -9,6 +9,7 @@ use flat::form::{Form, form_of};
 use flat::stage::{FlatParameter, FlatStage};
 
 // What is chosen, and a waveguide's size. What the kind does not have is 0.
+// Stays: as `Wires`, `Parameters` and `stage_from`, a type of the definitions `choices`, `wires` and `parameters` in specs/File.antt, under `read_of`.
 #[derive(Clone, Copy)]
 pub(crate) struct Choices {
     pub choice: usize,

@@ -8,9 +8,5 @@ use stages::reach::Reaches;
 pub fn reach_numbers(reaches: Reaches) -> [u8; 32]
     ensures { result ≡ reach_numbers reaches }
 {
-    let mut numbers = [0u8; 32];
-    for (k, reach) in reaches.stages.iter().enumerate() {
-        numbers[k] = u8::from(*reach);
-    }
-    numbers
+    reaches.stages.map(u8::from)
 }

@@ -1,8 +1,9 @@
 // The stage that plain numbers name. Rests on `words` for the number of given bits; the stages are those of `stages`.
 ghost use Rattle.std.specs.Prelude.{◌≡◌};
-ghost use Rattle.flat.specs.Stage.{named_parameter, named_waveform, named_modulation, named_reflectance, named_filter, named_oscillator, named_waveguide, named_pan, named_kind, named_of};
+ghost use Rattle.flat.specs.Stage.{named_of};
+ghost use Rattle.flat.specs.Inside.{named_parameter, named_waveform, named_modulation, named_reflectance, named_filter, named_oscillator, named_waveguide, named_pan, named_kind};
 
-use magnetron::buffer::buffer_of;
+use magnetron::buffer::BufferIndex;
 use microwave::filter::{Filter, FilterType};
 use microwave::oscillator::{Modulation, OscillatorSpec, OscillatorType};
 use microwave::parameter::Parameter;
@@ -43,6 +44,7 @@ pub struct FlatStage {
 }
 
 // Here and below, None where a number names nothing.
+// Stays: no plainer as `TryFrom`: the enums are other crates', so that none may stand here from a `usize`, and its error would say no more than None does.
 #[tactic(auto, unfolding(crate::specs::Stage::parameter_of))]
 fn parameter_of(p: FlatParameter) -> Option<Parameter>
     ensures { result ≡ named_parameter p }
@@ -152,12 +154,12 @@ fn pan_of(flat: FlatStage) -> Option<Kind>
     ensures { result ≡ named_pan flat }
 {
     let right = Side {
-        output: buffer_of(flat.second_output),
+        output: BufferIndex::from(flat.second_output),
         out_level: parameter_of(flat.first)?,
         gain: parameter_of(flat.third)?,
     };
     Some(Kind::Pan {
-        input: buffer_of(flat.first_input),
+        input: BufferIndex::from(flat.first_input),
         left_gain: parameter_of(flat.second)?,
         right,
     })
@@ -168,7 +170,7 @@ fn pan_of(flat: FlatStage) -> Option<Kind>
 fn kind_of(flat: FlatStage) -> Option<Kind>
     ensures { result ≡ named_kind flat }
 {
-    let input = buffer_of(flat.first_input);
+    let input = BufferIndex::from(flat.first_input);
     match flat.kind {
         0 => Some(Kind::Pass { input }),
         1 => Some(Kind::Pow3 { input }),
@@ -194,7 +196,7 @@ fn kind_of(flat: FlatStage) -> Option<Kind>
         }),
         13 => Some(Kind::RingModulator {
             first: input,
-            second: buffer_of(flat.second_input),
+            second: BufferIndex::from(flat.second_input),
         }),
         14 => pan_of(flat),
         _ => None,
@@ -208,7 +210,7 @@ pub fn stage_of(flat: FlatStage) -> Option<Stage>
 {
     Some(Stage {
         kind: kind_of(flat)?,
-        output: buffer_of(flat.output),
+        output: BufferIndex::from(flat.output),
         out_level: parameter_of(flat.out_level)?,
     })
 }

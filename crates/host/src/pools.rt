@@ -56,6 +56,7 @@ impl From<Prepared> for FlatPrepared {
 }
 
 // What a single write answers, and the pools with its output's mark cleared.
+// Stays: the C interface, grynnadot_wrote, has the pools beside the answer.
 #[repr(C)]
 #[derive(Clone, Copy)]
 pub struct FlatWrote {

@@ -39,6 +39,7 @@ impl From<Answer> for FlatAnswer {
 }
 
 // What a run answers, with the records for the next one, and by stage number whether each string reached its note.
+// Stays: the C interface, grynnadot_ran, has the records beside the answer.
 #[repr(C)]
 #[derive(Clone, Copy)]
 pub struct FlatRan {

@@ -56,8 +56,13 @@ fn read_input(stdin: Stdin, bytes: &mut [u8]) -> Result<Report, Failure>
     }
 }
 
+// Where a line cannot be written, there is nobody to tell, and the next is tried.
+fn write_line(stdout: Stdout, n: u64) {
+    let _ = println!(stdout; "{n}");
+}
+
 // The figures in document 02's order, the last as its bits.
-fn write_report(stdout: Stdout, report: Report) -> io::Result<()> {
+fn write_report(stdout: Stdout, report: Report) {
     let Report {
         samples,
         nans,
@@ -67,16 +72,20 @@ fn write_report(stdout: Stdout, report: Report) -> io::Result<()> {
         largest,
         ..
     } = report;
-    println!(stdout; "{samples}\n{nans}\n{infinities}\n{above_one}\n{sign_changes}\n{largest:016x}")
+    for figure in [samples, nans, infinities, above_one, sign_changes] {
+        write_line(stdout, figure);
+    }
+    let _ = println!(stdout; "{largest:016x}");
 }
 
-// Where a line cannot be written, there is nobody to tell.
 fn main(rt: HostRuntime) {
     let stdout = rt.stdout();
     let mut bytes = [0u8; 65536];
-    let _ = match read_input(rt.stdin(), &mut bytes) {
+    match read_input(rt.stdin(), &mut bytes) {
         Ok(report) => write_report(stdout, report),
-        Err(Failure::Refused(refused)) => println!(stdout; "{}", u64::from(refused)),
-        Err(Failure::Unread) => eprintln!(rt; "levels: standard input cannot be read"),
-    };
+        Err(Failure::Refused(refused)) => write_line(stdout, refused.into()),
+        Err(Failure::Unread) => {
+            let _ = eprintln!(rt; "levels: standard input cannot be read");
+        }
+    }
 }

@@ -1,27 +1,24 @@
 -- Blocks: several samples of a window at once, in an array.
---     Filled           the loop that fills an array with a signal, after k samples: filled_start, filled_more, filled_end
+--     Filled           the loop that fills an array with a signal, after k samples: filled_start, filled_more
 --     window_ext       a window of signals that agree on its n samples
 --     window_block     i samples of a window, and then n more, are i + n samples of it
 --     block_room, block_reach, block_kept, writing_block    the steps of `Writing` for the n samples from i on
 --     writing_resumed  the samples that blocks have written, as a loop knows them that goes on sample by sample
 --     Resumed          what such a loop keeps: it knows of its own start alone, so that this is said of any pool d that was written so far
---     reach_before     what is before a sample in reach is in reach
 -- Assumes nothing.
 use mathlib.Core.Path.{◌≡◌, refl, sym, ap, ap₂, ◌∙◌}
 use mathlib.Core.List.{List}
 use Prim.Native.Nat.{ℕ, zero, suc, ◌+◌, ◌<◌, ◌≤◌}
-use native.Mathlib.Nat.{le_antisymm}
 use native.Mathlib.Numerals.{add-one, add-one-le}
 use native.Mathlib.Omega.{arith}
 use lib.ListN.{length, get_or, take, set, length-append, length-drop, length-set}
-use lib.Seq.{length-take-le, take_all, take-suc-set}
+use lib.Seq.{length-take-le, take-suc-set}
 use lib.Ieee.{Float, nan}
 use Rattle.magnetron.specs.Signals.{tab, window}
 use Rattle.magnetron.specs.Inside.Mix.{mix_of}
 use Rattle.magnetron.specs.Inside.Source.{signal_of, InReach}
 use Rattle.magnetron.specs.Inside.Target.{LiesIn, ClearOf, mixed_in, block_written, WrittenTo}
 use Rattle.magnetron.specs.declared.source.Source.{Source}
-use Rattle.magnetron.specs.declared.source.Source.TheVariants.{Zeros, Own, Other}
 use Rattle.magnetron.specs.declared.output.Target.{Target}
 use Rattle.magnetron.proofs.Windows.{tab-length, tab-at, tab_ext, window_none, window_more}
 use Rattle.magnetron.proofs.Writing.{Writing, after, in_reach, kept}
@@ -44,9 +41,6 @@ module _ {n : ℕ} {g : ℕ → Float} {l : List Float} where
       long = length-set l k v ∙ f.long;
       done = rw add-one (take-suc-set l k v (omega (arith, f.long)) ∙ rw (f.done, e));
     }
-
-    pub filled_end : n ≤ k → l ≡ tab n g
-    filled_end h = sym (take_all k l (omega (arith, f.long))) ∙ f.done ∙ ap (λ (m : ℕ). tab m g) (le_antisymm f.upto h)
 
 module _ {A : Type 0} where
   window-length : (d : List A) (base n : ℕ) (g : ℕ → A) → base + n ≤ length d → length (window d base n g) ≡ length d
@@ -98,8 +92,3 @@ writing_resumed {own} {target} {x} {l} {i} fits p =
 
 abbrev pub Resumed : (List Float → Type 0) → (List Float → ℕ → Float) → Target → List Float → ℕ → List Float → ℕ → Type 0
 Resumed clear x target own₀ i₀ own i = (d : List Float) → clear d → Writing d target (x d) own₀ i₀ → Writing d target (x d) own i
-
-pub reach_before : (source : Source) (own others i k : ℕ) → InReach source own others i → k ≤ i → InReach source own others k
-reach_before Zeros own others i k h l = tt
-reach_before (Own at) own others i k h l = omega arith
-reach_before (Other at) own others i k h l = omega arith

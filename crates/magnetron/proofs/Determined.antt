@@ -1,7 +1,10 @@
 -- Each public contract of `magnetron` determines what is seen of a call: its result and every slice that it may change. `Reads.Post`, which Rattle
 -- makes of a function's `ensures`, is the contract itself: no copy of it is written here. Assumes nothing.
+use mathlib.Core.Path.{◌≡◌}
 use Rattle.numbers.specs.Outcome.{Answer, Determined, by_definition, as_follows, outcome}
-use Rattle.magnetron.specs.Single.{after_write}
+use Rattle.magnetron.specs.Single.{SameLoan, AfterWrite, after_write, lent, what_is_lent_to_write, what_is_lent}
+use Rattle.magnetron.specs.declared.lent.LentMut.{LentMut}
+use Rattle.magnetron.specs.declared.write.Wrote.{Wrote}
 use Rattle.magnetron.proofs.buffer.BufferIndex.stage_activity.Reads as stage-activity
 use Rattle.magnetron.proofs.buffer.BufferIndexFromUsize.from.Reads as from
 use Rattle.magnetron.proofs.buffer.buffer_of.Reads as buffer-of
@@ -33,6 +36,7 @@ use Rattle.magnetron.proofs.block.scaled.Reads as scaled
 use Rattle.magnetron.proofs.block.write_block.Reads as write-block
 use Rattle.magnetron.proofs.output.mix.Reads as mix
 use Rattle.magnetron.proofs.output.write_sample.Reads as write-sample
+use Rattle.magnetron.proofs.lent.LentMut.shared.Reads as shared
 use Rattle.magnetron.proofs.lent.LentMut.write_1.Reads as write-1
 use Rattle.magnetron.proofs.lent.LentMut.read_0_write_1.Reads as read-0-write-1
 use Rattle.magnetron.proofs.lent.LentMut.read_1_write_1.Reads as read-1-write-1
@@ -68,12 +72,25 @@ block_determined = (by_definition, by_definition, by_definition)
 pub target_determined : Answer mix.Post × Determined (λ r s. s.0.now) write-sample.Post
 target_determined = (by_definition, by_definition)
 
-pub write_determined : Determined (λ r s. after_write r s.0.now.internal.now s.0.now.external.now) write-1.Post
-    × Determined (λ r s. after_write r s.0.now.internal.now s.0.now.external.now) read-0-write-1.Post
-    × Determined (λ r s. after_write r s.0.now.internal.now s.0.now.external.now) read-1-write-1.Post
-    × Determined (λ r s. after_write r s.0.now.internal.now s.0.now.external.now) read-2-write-1.Post
-write_determined =
-    (as_follows (λ κs a r s h. h.1), as_follows (λ κs a r s h. h.1), as_follows (λ κs a r s h. h.1), as_follows (λ κs a r s h. h.1))
+-- of a write: its answer, and all that its loan holds at exit. The samples are the definition's (`wrote`), and the pools, the zeros and the window are
+-- those that were lent (`same`).
+seen_of_loan : (before after : LentMut) {r : Wrote} {w : AfterWrite} → SameLoan before after → after_write r after.internal.now after.external.now ≡ w
+    → outcome r (what_is_lent_to_write after) ≡ outcome w.wrote (lent before.pools w.internal w.external before.zeros.now before.window)
+seen_of_loan before after same wrote = λ i. outcome (wrote i).wrote (lent (same.3 i) (wrote i).internal (wrote i).external (same.2 i).now (same.4 i))
+
+pub write_determined : Determined (λ r s. outcome r (what_is_lent_to_write s.0.now)) write-1.Post
+    × Determined (λ r s. outcome r (what_is_lent_to_write s.0.now)) read-0-write-1.Post
+    × Determined (λ r s. outcome r (what_is_lent_to_write s.0.now)) read-1-write-1.Post
+    × Determined (λ r s. outcome r (what_is_lent_to_write s.0.now)) read-2-write-1.Post
+write_determined = (
+  as_follows (λ κs a r s h. seen_of_loan a.0.now s.0.now h.0 h.1),
+  as_follows (λ κs a r s h. seen_of_loan a.0.now s.0.now h.0 h.1),
+  as_follows (λ κs a r s h. seen_of_loan a.0.now s.0.now h.0 h.1),
+  as_follows (λ κs a r s h. seen_of_loan a.0.now s.0.now h.0 h.1),
+)
 
 pub read_determined : Answer check-read.Post × Determined (λ r s. r.now) read.Post
 read_determined = (by_definition, by_definition)
+
+pub shared_determined : Determined (λ r s. what_is_lent r) shared.Post
+shared_determined = by_definition

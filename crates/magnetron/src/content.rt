@@ -70,6 +70,7 @@ fn lay_blocks(own: &mut [f64], other: &[f64], content: Content, target: Target) 
 }
 
 // Writes a content where the target says, clear of what is read: blocks, and then what is left of the window.
+// Stays: the new form is no plainer: one walk for this and microwave's `shaped_window` would bring its trait of shapes down here, for two contents.
 pub(crate) fn lay(own: &mut [f64], other: &[f64], content: Content, target: Target)
     requires { (LiesIn target own.old) × (AllClear content own.old other.now target) }
     ensures { own.new ≡ written own.old target (content_of content own.old other.now) }

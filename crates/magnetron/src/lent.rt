@@ -67,7 +67,7 @@ impl Lent<'_> {
 
 impl LentMut<'_> {
     // The same to read.
-    pub(crate) fn shared(&self) -> Lent<'_>
+    pub fn shared(&self) -> Lent<'_>
         ensures { what_is_lent result ≡ what_is_lent_to_write self.now }
     {
         Lent {

@@ -5,6 +5,7 @@ ghost use Rattle.magnetron.specs.Pools.{marks_in, marked, remarked, base_of, all
 use crate::buffer::{BufferIndex, Marks};
 
 // The record of a pool, whose samples are a lent slice of count times capacity.
+// Stays: the C interface, grynnadot_pool, has a count beside the marks of 16 buffers.
 #[repr(C)]
 #[derive(Clone, Copy)]
 pub struct Pool {

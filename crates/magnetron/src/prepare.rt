@@ -11,6 +11,7 @@ use answers::refusal::{Reason, Verdict};
 use answers::zeros::fill_with_zeros;
 
 // What a new pool answers: its record, or that of an empty one.
+// Stays: what may not change: by `new_pool_of`, the contract of `new_pool`, a refusal has the record of an empty pool beside it, where an Err would hold none.
 #[derive(Clone, Copy)]
 pub struct Made {
     pub verdict: Verdict,
@@ -18,6 +19,7 @@ pub struct Made {
 }
 
 // What prepare answers: the pools made ready, or as they came.
+// Stays: what may not change: by `prepared_of`, the contract of `prepare`, a refusal has the pools as they came beside it, where an Err would hold none.
 #[derive(Clone, Copy)]
 pub struct Prepared {
     pub verdict: Verdict,

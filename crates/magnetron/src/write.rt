@@ -16,6 +16,7 @@ use crate::source::{Source, source_of};
 use answers::refusal::Answer;
 
 // What a single write answers, and the pools with its output's mark cleared.
+// Stays: what may not change: by `refused_by`, in the contract of each write (`write_of`), a refusal has the pools as they came beside it, where an Err would hold none.
 #[derive(Clone, Copy)]
 pub struct Wrote {
     pub answer: Answer,
@@ -23,6 +24,7 @@ pub struct Wrote {
 }
 
 // Puts what is read, or the lent values, into the output, once the checks have passed. `own` is the output's pool, `other` the other one.
+// Stays: the new form is no plainer: `write_1` alone calls it, once for each side of an output, and would make a record of these for each call, to be taken apart here.
 fn put(
     own: &mut [f64],
     other: &[f64],

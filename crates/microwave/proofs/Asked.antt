@@ -1,9 +1,11 @@
 -- A level whose other is there, and asks along a list, up to the first that is missing. Assumes nothing.
-use Rattle.std.proofs.Common.{◌≡◌, ◌≢◌, ℕ, ◌+◌, ◌<◌, ◌≤◌, true, false, List, [], ◌∷◌, length, get_or, drop, Option, Some, None, refl, add-one}
+use Rattle.std.proofs.Common.{◌≡◌, ◌≢◌, ℕ, ◌+◌, ◌<◌, ◌≤◌, true, false, List, [], ◌∷◌, length, get_or, drop, Option, Some, None, Ok, Err, refl, add-one}
 use Rattle.std.proofs.Math.ListN.{drop_of_length-le}
 use Rattle.std.proofs.Math.Seq.{drop-cons}
 use lib.Ieee.{Float}
-use Rattle.microwave.specs.Parameter.{looked, required, of_pair, ask_list, all_found}
+use Rattle.answers.specs.Refusal.{result_of}
+use Rattle.microwave.specs.Parameter.{looked, required, of_pair, ask_list, all_found, asks_refused}
+use Rattle.answers.specs.declared.refusal.Reason.TheVariants as reason
 use Rattle.microwave.specs.declared.parameter.Parameter.{Parameter}
 use Rattle.microwave.specs.declared.parameter.Parameter.TheVariants.{Fixed, Slot, WindowSeconds, Absent}
 use Rattle.microwave.specs.declared.parameter.Ask.{Ask}
@@ -56,3 +58,10 @@ module _ (values : List Float) (seconds : Float) where
   pub none_left : (asks : List Ask) (i : ℕ) → length asks ≤ i → all_found (drop i asks) values seconds ≡ true
   unfolding all_found
   none_left asks i h = rw (drop_of_length-le asks h) refl
+
+  -- what check 6 answers then
+  pub lacks : (asks : List Ask) → all_found asks values seconds ≡ false → Err reason.Parameter ≡ result_of (asks_refused asks values seconds)
+  lacks asks e = rw e refl
+
+  pub has_all : (asks : List Ask) → all_found asks values seconds ≡ true → Ok tt ≡ result_of (asks_refused asks values seconds)
+  has_all asks e = rw e refl

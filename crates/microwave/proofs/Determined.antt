@@ -10,7 +10,7 @@ use Rattle.microwave.proofs.parameter.required.Reads as required
 use Rattle.microwave.proofs.parameter.or_zero.Reads as or-zero
 use Rattle.microwave.proofs.parameter.or_one.Reads as or-one
 use Rattle.microwave.proofs.parameter.of_pair.Reads as of_pair
-use Rattle.microwave.proofs.parameter.all_found.Reads as all-found
+use Rattle.microwave.proofs.parameter.check_asks.Reads as check-asks
 use Rattle.microwave.proofs.parameter.first_number.Reads as first-number
 use Rattle.microwave.proofs.parameter.numbers_found.Reads as numbers-found
 use Rattle.microwave.proofs.plain.clip_limit.Reads as clip-limit
@@ -34,7 +34,7 @@ use Rattle.microwave.proofs.window.one_pole_window.Reads as one-pole-window
 use Rattle.microwave.proofs.window.biquad_window.Reads as biquad-window
 use Rattle.microwave.proofs.window.string_window.Reads as string-window
 
-pub parameter_determined : Answer lookup.Post × Answer required.Post × Answer or-zero.Post × Answer or-one.Post × Answer of_pair.Post × Answer all-found.Post
+pub parameter_determined : Answer lookup.Post × Answer required.Post × Answer or-zero.Post × Answer or-one.Post × Answer of_pair.Post × Answer check-asks.Post
 parameter_determined = (by_definition, by_definition, by_definition, by_definition, by_definition, by_definition)
 
 pub numbers_determined : Answer first-number.Post × ((N : ℕ) (sized : Fits w64 N) → Answer (numbers-found.Post N sized))

@@ -1,5 +1,8 @@
 -- The number that stands for a parameter in a window, and check 6 where there is none (01, "Buffers"). Assumes nothing.
-use Rattle.std.specs.Prelude.{ℕ, ◌≤◌, Bool, true, ◌&&◌, List, [], ◌∷◌, length, ◌==◌, slice_index_or, slice_get, Option, Some, None, Float}
+use Rattle.std.specs.Prelude.{ℕ, ◌≤◌, Bool, true, cond, ◌&&◌, List, [], ◌∷◌, length, ◌==◌, slice_index_or, slice_get, Option, Some, None, Float}
+use Rattle.std.proofs.Math.Option as found
+use Rattle.answers.specs.declared.refusal.Reason.{Reason}
+use Rattle.answers.specs.declared.refusal.Reason.TheVariants as reason
 use Rattle.numbers.specs.Constants.{zero64, one64}
 use Rattle.microwave.specs.declared.parameter.Parameter.{Parameter}
 use Rattle.microwave.specs.declared.parameter.Parameter.TheVariants.{Fixed, Slot, WindowSeconds, Absent}
@@ -63,6 +66,10 @@ ask_list (Three a b c) = a ∷ b ∷ c ∷ []
 unfoldable pub all_found : List Ask → List Float → Float → Bool
 all_found [] values seconds = true
 all_found (ask ∷ asks) values seconds = (reported (looked ask values seconds)).number == 0 && all_found asks values seconds
+
+-- check 6 of them: nothing, or what refuses
+abbrev pub asks_refused : List Ask → List Float → Float → found.Option Reason
+asks_refused asks values seconds = cond (all_found asks values seconds) found.none (found.some reason.Parameter)
 
 -- the number found, 0.0 where there is none
 abbrev pub number_for : Ask → List Float → Float → Float

@@ -12,9 +12,8 @@ use crate::machine::Machine;
 use crate::parameter::{Asks, Numbers, Parameter, numbers_found, required};
 use numbers::small::{held, maximum, recip};
 use numbers::turns::{cosine_turns, sine_turns};
+use std::f64::consts::TAU;
 use util::step::Step;
-
-const TAU: f64 = 6.283185307179586;
 
 // Each kind with its own parameters, or with a window's numbers in their place.
 #[derive(Clone, Copy)]
@@ -62,6 +61,7 @@ impl Filter<Parameter> {
     }
 
     // The numbers that answer what it asks for, 0.0 where there is none.
+    // Stays: no plainer: `asks` and this need the parameters as one or two asks, so that parts handed out as (P, Option<P>) are matched in each again.
     pub fn numbers(self, values: &[f64], seconds: f64) -> Numbers
         ensures { result ≡ numbers_of (filter_asks self) values.now seconds }
     {
@@ -132,7 +132,7 @@ pub enum OnePole {
 
 // A one-pole's memory: the low-pass's last output; the high-pass's last output and last input.
 #[repr(C)]
-#[derive(Clone, Copy)]
+#[derive(Clone, Copy, Default)]
 pub struct OnePoleMemory {
     pub low: f64,
     pub high: f64,
@@ -206,7 +206,7 @@ pub struct Coefficients {
 
 // A biquad's memory: the last two outputs and the last two inputs.
 #[repr(C)]
-#[derive(Clone, Copy)]
+#[derive(Clone, Copy, Default)]
 pub struct Biquad {
     pub y1: f64,
     pub y2: f64,

@@ -36,7 +36,7 @@ pub struct OscillatorSpec {
 
 // What an oscillator remembers: where its wave stands, and the phase parameter of its last window.
 #[repr(C)]
-#[derive(Clone, Copy)]
+#[derive(Clone, Copy, Default)]
 pub struct Phases {
     pub phase: f64,
     pub saved: f64,

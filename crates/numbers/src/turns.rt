@@ -104,6 +104,7 @@ pub fn sine_turns(x: f64) -> f64
 
 // The cosine of x turns, x in the first quarter: up to an eighth by the cosine sum, past it by the sine sum.
 #[tactic(auto, unfolding(crate::specs::Turns::quarter_cosine))]
+// Stays: the new form is no plainer: one function for this and `quarter_sine` would take the two sums as closures, in one sequence or the other.
 fn quarter_cosine(x: f64) -> f64
     ensures { result ≡ quarter_cosine x }
 {

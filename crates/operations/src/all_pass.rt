@@ -1,5 +1,6 @@
 // Sort 7: the all-pass delay. Rests on `util::all_pass`, which refuses a bad ring.
-use crate::device::{Device, Operation, read_operation, silent, write_answer, write_ring};
+use crate::device::{Delay, Device, answer_delay, write_ring};
+use answers::refusal::Refusal;
 use stream::place::Place;
 use util::all_pass::AllPassDelay;
 use util::answered::Answered;
@@ -15,9 +16,7 @@ impl Device for AllPassDelay {
     }
 
     fn answer_one(&mut self, place: &mut Place, ring: &mut [f64]) {
-        let asked = read_operation(place);
-        let answered = perform(*self, ring, asked.operation);
-        *self = write_answer(place, answered, asked.tells_reach);
+        *self = answer_delay(*self, place, ring);
     }
 
     fn write_end(&self, place: &mut Place, ring: &[f64]) {
@@ -25,13 +24,22 @@ impl Device for AllPassDelay {
     }
 }
 
-fn perform(delay: AllPassDelay, ring: &mut [f64], operation: Operation) -> Answered<AllPassDelay> {
-    match operation {
-        Operation::ProcessSample(input) => delay.process_sample(ring, input),
-        Operation::ProcessSampleFract {
-            fract_offset,
-            input,
-        } => delay.process_sample_fract(ring, fract_offset, input),
-        Operation::Mute => silent(delay.mute(ring), delay),
+impl Delay for AllPassDelay {
+    fn sample(self, ring: &mut [f64], input: f64) -> Answered<AllPassDelay> {
+        self.process_sample(ring, input)
+    }
+
+    fn sample_fract(
+        self,
+        ring: &mut [f64],
+        fract_offset: f64,
+        input: f64,
+    ) -> Answered<AllPassDelay> {
+        self.process_sample_fract(ring, fract_offset, input)
+    }
+
+    fn silenced(self, ring: &mut [f64]) -> Result<AllPassDelay, Refusal> {
+        self.mute(ring)?;
+        Ok(self)
     }
 }

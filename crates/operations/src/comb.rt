@@ -1,7 +1,6 @@
 // Sort 6: the comb, with each response and each limit. Rests on `util::comb_filter`, which refuses a bad ring.
-use crate::device::{
-    Device, Operation, read_low_pass, read_operation, silent, write_answer, write_ring,
-};
+use crate::device::{Delay, Device, answer_delay, read_low_pass, write_ring};
+use answers::refusal::Refusal;
 use stream::place::Place;
 use util::answered::Answered;
 use util::comb_filter::CombFilter;
@@ -21,9 +20,7 @@ impl Device for CombFilter {
     }
 
     fn answer_one(&mut self, place: &mut Place, ring: &mut [f64]) {
-        let asked = read_operation(place);
-        let answered = perform(*self, ring, asked.operation);
-        *self = write_answer(place, answered, asked.tells_reach);
+        *self = answer_delay(*self, place, ring);
     }
 
     // With the low-pass state, where the response has one.
@@ -32,6 +29,20 @@ impl Device for CombFilter {
         if let AnyInteraction::LowPassGain(chain) = self.response {
             place.write(to_word(chain.first.state));
         }
+    }
+}
+
+impl Delay for CombFilter {
+    fn sample(self, ring: &mut [f64], input: f64) -> Answered<CombFilter> {
+        self.process_sample(ring, input)
+    }
+
+    fn sample_fract(self, ring: &mut [f64], fract_offset: f64, input: f64) -> Answered<CombFilter> {
+        self.process_sample_fract(ring, fract_offset, input)
+    }
+
+    fn silenced(self, ring: &mut [f64]) -> Result<CombFilter, Refusal> {
+        self.mute(ring)
     }
 }
 
@@ -62,18 +73,4 @@ fn read_limit(place: &mut Place) -> AnyInteraction {
     AnyInteraction::SoftClip(SoftClip {
         linear_until: level,
     })
-}
-
-fn perform(filter: CombFilter, ring: &mut [f64], operation: Operation) -> Answered<CombFilter> {
-    match operation {
-        Operation::ProcessSample(input) => filter.process_sample(ring, input),
-        Operation::ProcessSampleFract {
-            fract_offset,
-            input,
-        } => filter.process_sample_fract(ring, fract_offset, input),
-        Operation::Mute => match filter.mute(ring) {
-            Ok(next) => silent(Ok(()), next),
-            Err(refusal) => silent(Err(refusal), filter),
-        },
-    }
 }

@@ -1,6 +1,7 @@
 // Sorts 3 to 7: a device is set up, asked one operation after the other, and shown at the end. What the five have in common is here; what
 // each asks and does stands in `ring`, `soft_clip`, `low_pass`, `comb` and `all_pass`.
-use answers::refusal::{Refusal, Told, Verdict};
+use crate::outcome::write_outcome;
+use answers::refusal::Refusal;
 use stream::place::Place;
 use util::all_pass::AllPassDelay;
 use util::answered::Answered;
@@ -55,16 +56,13 @@ fn answer_on_ring<D: Device>(place: &mut Place, rings: &mut [f64]) {
     answer_at::<D>(place, ring, position);
 }
 
-// From the settings on. Each operation is answered as it is read, so their count may be any word.
+// From the settings on.
 fn answer_at<D: Device>(place: &mut Place, ring: &mut [f64], position: usize) {
     let mut device = D::read(place, position);
-    for _ in 0..place.next() {
-        if place.is_over() {
-            return;
-        }
-        device.answer_one(place, ring);
+    let count = place.next();
+    if place.each(count, |place| device.answer_one(place, ring)) {
+        device.write_end(place, ring);
     }
-    device.write_end(place, ring);
 }
 
 // A low-pass in a state, as settings have it.
@@ -76,65 +74,84 @@ pub(crate) fn read_low_pass(place: &mut Place) -> OnePoleLowPass {
     }
 }
 
-// What a comb or an all-pass is asked for.
+// What a comb and an all-pass do over their ring.
+pub(crate) trait Delay: Copy {
+    fn sample(self, ring: &mut [f64], input: f64) -> Answered<Self>;
+
+    fn sample_fract(self, ring: &mut [f64], fract_offset: f64, input: f64) -> Answered<Self>;
+
+    // The state after it.
+    fn silenced(self, ring: &mut [f64]) -> Result<Self, Refusal>;
+}
+
+// What such a delay is asked for; the answer to TellReach tells what the ring reaches.
 #[derive(Clone, Copy)]
-pub(crate) enum Operation {
+enum Operation {
     ProcessSample(f64),
     ProcessSampleFract { fract_offset: f64, input: f64 },
+    TellReach { fract_offset: f64, input: f64 },
     Mute,
 }
 
-// An operation, and whether its answer tells what the ring reaches.
-#[derive(Clone, Copy)]
-pub(crate) struct Asked {
-    pub(crate) operation: Operation,
-    pub(crate) tells_reach: bool,
-}
-
-// An operation by its number, with its arguments; 3 is 1 that tells its reach. One that has no meaning is refused, and silences the ring as 2
-// does.
-pub(crate) fn read_operation(place: &mut Place) -> Asked {
-    let name = place.next();
-    let operation = match name {
+// An operation by its number, with its arguments. One that has no meaning is refused, and silences the ring as 2 does.
+fn read_operation(place: &mut Place) -> Operation {
+    match place.next() {
         0 => Operation::ProcessSample(from_word(place.next())),
-        1 | 3 => Operation::ProcessSampleFract {
+        1 => Operation::ProcessSampleFract {
             fract_offset: from_word(place.next()),
             input: from_word(place.next()),
         },
-        _ => Operation::Mute,
-    };
-    place.refuse_if(name > 3);
-    Asked {
-        operation,
-        tells_reach: name == 3,
+        2 => Operation::Mute,
+        3 => Operation::TellReach {
+            fract_offset: from_word(place.next()),
+            input: from_word(place.next()),
+        },
+        _ => {
+            place.refuse();
+            Operation::Mute
+        }
     }
 }
 
-// What an operation that has no sample to give answers, and the state after it.
-pub(crate) fn silent<S>(verdict: Verdict, next: S) -> Answered<S> {
+// One operation of such a delay: what it asks for, what it does, and its answer. What comes next is handed back.
+pub(crate) fn answer_delay<D: Delay>(delay: D, place: &mut Place, ring: &mut [f64]) -> D {
+    match read_operation(place) {
+        Operation::ProcessSample(input) => write_answer(place, delay.sample(ring, input)),
+        Operation::ProcessSampleFract {
+            fract_offset,
+            input,
+        } => write_answer(place, delay.sample_fract(ring, fract_offset, input)),
+        Operation::TellReach {
+            fract_offset,
+            input,
+        } => write_with_reach(place, delay.sample_fract(ring, fract_offset, input)),
+        Operation::Mute => write_answer(place, silent(delay.silenced(ring), delay)),
+    }
+}
+
+// What an operation that has no sample to give answers: with the state after it, or where it is refused the one before.
+pub(crate) fn silent<S: Copy>(done: Result<S, Refusal>, before: S) -> Answered<S> {
     Answered {
-        verdict,
-        next,
+        verdict: done.map(|_| ()),
+        next: done.unwrap_or(before),
         sample: 0.0,
         reach: Reach::Within,
     }
 }
 
-// An answer over a ring: the outcome, the sample, and what the ring reaches where that is told. What comes next is handed back.
-pub(crate) fn write_answer<S>(place: &mut Place, answered: Answered<S>, tells_reach: bool) -> S {
+// An answer over a ring: the outcome and the sample. What comes next is handed back.
+pub(crate) fn write_answer<S>(place: &mut Place, answered: Answered<S>) -> S {
     write_outcome(place, answered.verdict);
     place.write(to_word(answered.sample));
-    if tells_reach {
-        place.write(u8::from(answered.reach) as u64);
-    }
     answered.next
 }
 
-// A number and a stage.
-pub(crate) fn write_outcome<T: Copy>(place: &mut Place, answer: Result<T, Refusal>) {
-    let told = Told::of(answer);
-    place.write(told.number as u64);
-    place.write(told.stage as u64);
+// The same, and what the ring reaches.
+pub(crate) fn write_with_reach<S>(place: &mut Place, answered: Answered<S>) -> S {
+    let reach = answered.reach;
+    let next = write_answer(place, answered);
+    place.write(u8::from(reach) as u64);
+    next
 }
 
 // What is remembered over a ring: the position and all cells.

@@ -1,11 +1,27 @@
 // Sort 2: a function of numbers, at as many arguments as the case lists. Rests on `function` for the answers, and on `numbers` for the one
 // function that looks at all its arguments together.
-use crate::function::Function;
+use crate::function::{Function, UnknownFunction};
 use stream::place::Place;
 use words::number::from_word;
 
-// The number of the function with one answer to all its arguments.
-const ALL_PLUS_ZERO: u64 = 13;
+// What a case asks for: a function's answer to each group of arguments, or the one answer to all of them.
+// Stays: an Option would call one of the two absent, and both are functions; the two cases below are plainer.
+#[derive(Clone, Copy, PartialEq, Eq)]
+enum Asked {
+    Each(Function),
+    AllPlusZero,
+}
+
+impl TryFrom<u64> for Asked {
+    type Error = UnknownFunction;
+
+    fn try_from(number: u64) -> Result<Self, UnknownFunction> {
+        match number {
+            13 => Ok(Asked::AllPlusZero),
+            _ => Ok(Asked::Each(Function::try_from(number)?)),
+        }
+    }
+}
 
 // A case, from the word after its sort on.
 pub fn answer_case(place: &mut Place, samples: &mut [f64]) {
@@ -14,22 +30,12 @@ pub fn answer_case(place: &mut Place, samples: &mut [f64]) {
     if place.is_over() {
         return;
     }
-    if number == ALL_PLUS_ZERO {
-        return answer_all_plus_zero(place, samples, count as usize);
-    }
-    match Function::try_from(number) {
-        Ok(function) => answer_each(place, function, count),
-        Err(_) => place.refuse(),
-    }
-}
-
-// Answers as it reads and holds nothing, so the count may be any word.
-fn answer_each(place: &mut Place, function: Function, count: u64) {
-    for _ in 0..count {
-        answer_one(place, function);
-        if place.is_over() {
-            return;
+    match Asked::try_from(number) {
+        Ok(Asked::Each(function)) => {
+            place.each(count, |place| answer_one(place, function));
         }
+        Ok(Asked::AllPlusZero) => answer_all_plus_zero(place, samples, count as usize),
+        Err(_) => place.refuse(),
     }
 }
 

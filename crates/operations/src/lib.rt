@@ -10,6 +10,7 @@ mod function;
 pub mod functions;
 mod low_pass;
 mod operation;
+pub mod outcome;
 pub mod pools;
 mod request;
 mod ring;

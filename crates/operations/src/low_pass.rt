@@ -13,25 +13,30 @@ enum Operation {
     Mute,
 }
 
+// An operation by its number, with its arguments. One that has no meaning is refused, and mutes as 3 does.
+fn read_operation(place: &mut Place) -> Operation {
+    match place.next() {
+        0 => Operation::ProcessSample(from_word(place.next())),
+        1 => Operation::DelaySamples,
+        2 => Operation::SetCutoff {
+            cutoff: from_word(place.next()),
+            rate: from_word(place.next()),
+        },
+        3 => Operation::Mute,
+        _ => {
+            place.refuse();
+            Operation::Mute
+        }
+    }
+}
+
 impl Device for OnePoleLowPass {
     fn read(place: &mut Place, _position: usize) -> OnePoleLowPass {
         read_low_pass(place)
     }
 
-    // An operation by its number, with its arguments. One that has no meaning is refused, and mutes as 3 does.
     fn answer_one(&mut self, place: &mut Place, _ring: &mut [f64]) {
-        let name = place.next();
-        let operation = match name {
-            0 => Operation::ProcessSample(from_word(place.next())),
-            1 => Operation::DelaySamples,
-            2 => Operation::SetCutoff {
-                cutoff: from_word(place.next()),
-                rate: from_word(place.next()),
-            },
-            _ => Operation::Mute,
-        };
-        place.refuse_if(name > 3);
-        let answer = perform(self, operation);
+        let answer = perform(self, read_operation(place));
         place.write(to_word(answer));
     }
 

@@ -1,6 +1,6 @@
 // One operation of sorts 8 and 9 on pools without a patch: what it does, and what is told of it. Rests on `magnetron` for each operation, and
 // on `request` for what is asked.
-use crate::device::write_outcome;
+use crate::outcome::write_outcome;
 use crate::pools::write_marks;
 use crate::request::{Content, Request, Sort, Write};
 use answers::refusal::{Verdict, activity_of};
@@ -22,16 +22,18 @@ pub(crate) fn answer_one(
     match Request::read(place, sort) {
         Request::Read { window, buffer } => {
             lent.window = window;
-            answer_read(place, to_read(lent), buffer);
+            answer_read(place, lent.shared(), buffer);
         }
-        Request::Write(write) => {
+        Request::Write(write, content) => {
             lent.window = write.window;
-            read_values(place, write.content, values);
-            answer_write(place, lent, write, values);
+            read_values(place, content, values);
+            let wrote = perform_write(lent, write, content, values);
+            lent.pools = wrote.pools;
+            write_wrote(place, wrote);
         }
         Request::Prepare { window } => {
             lent.window = window;
-            let prepared = to_read(lent).prepare();
+            let prepared = lent.shared().prepare();
             lent.pools = prepared.pools;
             write_flags(place, lent, prepared.verdict);
         }
@@ -39,17 +41,6 @@ pub(crate) fn answer_one(
             lent.pools = lent.pools.set_reset();
             write_flags(place, lent, Ok(()));
         }
-    }
-}
-
-// What is lent, to read.
-fn to_read<'a>(lent: &'a LentMut<'_>) -> Lent<'a> {
-    Lent {
-        internal: &*lent.internal,
-        external: &*lent.external,
-        zeros: lent.zeros,
-        pools: lent.pools,
-        window: lent.window,
     }
 }
 
@@ -73,18 +64,16 @@ fn read_values(place: &mut Place, content: Content, values: &mut [f64]) {
 }
 
 // The outcome and the activity.
-fn answer_write(place: &mut Place, lent: &mut LentMut<'_>, write: Write, values: &[f64]) {
-    let wrote = perform_write(lent, write, values);
-    lent.pools = wrote.pools;
+fn write_wrote(place: &mut Place, wrote: Wrote) {
     write_outcome(place, wrote.answer);
     place.write(u8::from(activity_of(wrote.answer)) as u64);
 }
 
 // Where there are not as many values as were asked for, none are lent.
-fn perform_write(lent: &mut LentMut<'_>, write: Write, values: &[f64]) -> Wrote {
+fn perform_write(lent: &mut LentMut<'_>, write: Write, content: Content, values: &[f64]) -> Wrote {
     let output = write.output;
     let level = write.level;
-    match write.content {
+    match content {
         Content::Values(count) => {
             lent.read_0_write_1(output, level, values.get(..count).unwrap_or(&[]))
         }

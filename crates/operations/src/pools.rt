@@ -1,8 +1,9 @@
 // The pools that a case lends: their sizes, the slices that are lent with them, and the stale marks. Any of it may be bad: the engine is what
 // refuses. Rests on `stream` for the words.
-ghost use Rattle.std.specs.Prelude.{◌≡◌, map};
+ghost use Rattle.std.specs.Prelude.{◌≡◌, ◌↔◌, IsSome, IfSome, map, take};
 ghost use Rattle.magnetron.specs.Pools.{marks_in};
 ghost use Rattle.stream.specs.Place.{flag_word, Writes};
+ghost use Rattle.operations.specs.Lent.{Fit};
 ghost use Rattle.operations.specs.Marks.{mark_words};
 
 use magnetron::pool::{Pool, Pools};
@@ -43,7 +44,12 @@ pub struct Lent<'a> {
 
 impl Memory {
     // The first part of each; None where one would be longer than what there is for it.
-    pub fn lend(&mut self, lengths: Lengths) -> Option<Lent<'_>> {
+    pub fn lend(&mut self, lengths: Lengths) -> Option<Lent<'_>>
+        ensures fit { IsSome result ↔ Fit lengths }
+        ensures pools { IfSome result (λ lent. (lent.internal.now ≡ take lengths.internal self.old.internal)
+            × (lent.external.now ≡ take lengths.external self.old.external) × (lent.zeros.now ≡ take lengths.zeros self.old.zeros)) }
+        ensures others { IfSome result (λ lent. (lent.values.now ≡ take lengths.values self.old.values) × (lent.rings.now ≡ take lengths.rings self.old.rings)) }
+    {
         let Memory {
             internal,
             external,

@@ -24,13 +24,12 @@ pub(crate) struct Write {
     pub(crate) window: usize,
     pub(crate) output: BufferIndex,
     pub(crate) level: Option<f64>,
-    pub(crate) content: Content,
 }
 
 #[derive(Clone, Copy)]
 pub(crate) enum Request {
     Read { window: usize, buffer: BufferIndex },
-    Write(Write),
+    Write(Write, Content),
     Prepare { window: usize },
     SetReset,
 }
@@ -43,7 +42,16 @@ impl Request {
                 window: place.next() as usize,
                 buffer: read_buffer(place),
             },
-            (Sort::Single, number @ 1..=3) => Request::Write(read_write(place, number)),
+            (Sort::Single, 1) => {
+                Request::Write(read_write(place), Content::Values(place.next() as usize))
+            }
+            (Sort::Single, 2) => {
+                Request::Write(read_write(place), Content::One(read_buffer(place)))
+            }
+            (Sort::Single, 3) => Request::Write(
+                read_write(place),
+                Content::Two(read_buffer(place), read_buffer(place)),
+            ),
             (Sort::Prepare, 0) => Request::Prepare {
                 window: place.next() as usize,
             },
@@ -56,17 +64,12 @@ impl Request {
     }
 }
 
-// What a write, 1 to 3, names.
-fn read_write(place: &mut Place, number: u64) -> Write {
+// What a write names before its content.
+fn read_write(place: &mut Place) -> Write {
     Write {
         window: place.next() as usize,
         output: read_buffer(place),
         level: read_level(place),
-        content: match number {
-            1 => Content::Values(place.next() as usize),
-            2 => Content::One(read_buffer(place)),
-            _ => Content::Two(read_buffer(place), read_buffer(place)),
-        },
     }
 }
 
@@ -74,7 +77,7 @@ fn read_buffer(place: &mut Place) -> BufferIndex {
     BufferIndex::from(place.next() as usize)
 }
 
-// A level is 0, or 1 and its bits. Any other mark is refused, and has as many words as it says, of three.
+// A level is 0, or 1 and its bits. Any other mark is refused, with as many words behind it as it says, of three: what follows is read past them.
 fn read_level(place: &mut Place) -> Option<f64> {
     let mark = place.next();
     place.refuse_if(mark > 1);

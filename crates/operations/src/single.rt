@@ -48,15 +48,12 @@ fn read_pools(place: &mut Place, sort: Sort, sized: Pools) -> Pools {
     pools
 }
 
-// Each operation is answered as it is read, so their count may be any word.
+// Operation after operation.
 fn answer_all(place: &mut Place, sort: Sort, lent: &mut LentMut<'_>, values: &mut [f64]) {
-    for _ in 0..place.next() {
-        if place.is_over() {
-            return;
-        }
-        answer_one(place, sort, lent, values);
+    let count = place.next();
+    if place.each(count, |place| answer_one(place, sort, lent, values)) {
+        write_end(place, sort, lent);
     }
-    write_end(place, sort, lent);
 }
 
 // After the last operation: all samples, and in sort 8 the marks.

@@ -32,11 +32,7 @@ fn sawtooth() -> Stage {
 
 // A sample's 16 hex digits on a line. A NaN has no bits of its own: it is written as the usual quiet one.
 fn write_sample(stdout: Stdout, x: f64) {
-    let bits = if x.is_nan() {
-        0x7ff8000000000000
-    } else {
-        x.to_bits()
-    };
+    let bits = std::num::f64_to_bits_with_nan(x);
     let _ = println!(stdout; "{bits:016x}");
 }
 

@@ -99,11 +99,7 @@ fn read_contents(place: &mut Place, lent: &mut Lent<'_>) {
 impl Session<'_> {
     // The number of windows, and then window after window.
     fn answer_windows(&mut self, place: &mut Place, values: &mut [f64]) {
-        for _ in 0..place.next() {
-            if place.is_over() {
-                return;
-            }
-            self.answer_window(place, values);
-        }
+        let count = place.next();
+        place.each(count, |place| self.answer_window(place, values));
     }
 }

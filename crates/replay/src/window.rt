@@ -2,12 +2,13 @@
 // engine's `run`, which refuse what is bad.
 use crate::reaches::write_reaches;
 use crate::session::Session;
-use answers::refusal::{Answer, Refusal, Told, Verdict, activity_of};
+use answers::refusal::{Answer, Refusal, Verdict, activity_of};
 use engine::run::{Ran, run};
 use loans::setting::set_all;
 use loans::states::write_states;
 use magnetron::lent::Lent;
 use magnetron::prepare::Prepared;
+use operations::outcome::write_outcome;
 use operations::pools::write_marks;
 use stages::reach::all_within;
 use stream::place::Place;
@@ -76,6 +77,7 @@ impl Session<'_> {
         prepared.verdict
     }
 
+    // Stays: no plainer by `LentMut::shared`: these fields would first be lent mutably as a `LentMut`, which is one more record of the same five.
     fn prepared(&self, window: usize) -> Prepared {
         let lent = Lent {
             internal: &*self.internal,
@@ -99,7 +101,7 @@ impl Session<'_> {
 
     // The answer, all samples of both pools, and the marks; states and rings, and what each stage reached, where they are wanted.
     fn write_answer(&self, place: &mut Place, ran: Ran) {
-        write_outcome(place, ran.answer);
+        write_run(place, ran.answer);
         place.write_samples(self.internal);
         place.write_samples(self.external);
         write_marks(place, self.pools);
@@ -132,10 +134,8 @@ fn read_order<'a>(place: &mut Place, numbers: &'a mut [u8; 64]) -> &'a [u8] {
     &numbers[..count]
 }
 
-// A number, a stage, an activity.
-fn write_outcome(place: &mut Place, answer: Answer) {
-    let told = Told::of(answer);
-    place.write(told.number as u64);
-    place.write(told.stage as u64);
+// The outcome and the activity.
+fn write_run(place: &mut Place, answer: Answer) {
+    write_outcome(place, answer);
     place.write(u8::from(activity_of(answer)) as u64);
 }

@@ -9,14 +9,13 @@ ghost use Rattle.report.specs.Bytes.{samples_of, added_bytes_of};
 ghost use Rattle.report.specs.Inside.{signed_by, levelled_by};
 
 use crate::refused::Refused;
-use crate::sample::{INFINITY, ONE, SIGN, Sign, sign_of};
-use words::number::to_word;
+use crate::sample::{INFINITY, ONE, SIGN, Sample, Sign, sign_of};
 
 // What no count passes.
 const MOST: u64 = 4_294_967_295;
 
 // The six figures, in document 02's order, and the last sign that was met, to which the next one is held.
-#[derive(Clone, Copy)]
+#[derive(Clone, Copy, Default)]
 pub struct Report {
     pub samples: u64,
     pub nans: u64,
@@ -32,15 +31,7 @@ impl Report {
     pub fn new() -> Report
         ensures { result ≡ no_samples }
     {
-        Report {
-            samples: 0,
-            nans: 0,
-            infinities: 0,
-            above_one: 0,
-            sign_changes: 0,
-            largest: 0,
-            last: Sign::Neither,
-        }
+        Report::default()
     }
 
     // A stretch of samples more, of any length; refused where a count could pass 4,294,967,295. A refusal leaves the report as it is.
@@ -51,7 +42,7 @@ impl Report {
         if !self.has_room(samples.len()) {
             return Err(Refused::TooManySamples);
         }
-        *self = self.with_samples(samples);
+        *self = self.with_all(samples);
         Ok(())
     }
 
@@ -67,7 +58,7 @@ impl Report {
         if !rest.is_empty() {
             return Err(Refused::CutSample);
         }
-        *self = self.with_words(words);
+        *self = self.with_all(words);
         Ok(())
     }
 
@@ -91,25 +82,13 @@ impl Report {
     }
 
     // The lent samples more, for which there is room.
-    fn with_samples(self, samples: &[f64]) -> Report
+    fn with_all<S: Sample>(self, samples: &[S]) -> Report
         requires { fullest self + length samples.now ≤ most }
-        ensures { result ≡ after self (map to_word samples.now) }
+        ensures { result ≡ after self (map S.bits_by samples.now) }
     {
         let mut report = self;
-        for x in samples {
-            report = report.with_sample(to_word(*x));
-        }
-        report
-    }
-
-    // The samples more that the lent bytes make, for which there is room.
-    fn with_words(self, words: &[[u8; 8]]) -> Report
-        requires { fullest self + length words.now ≤ most }
-        ensures { result ≡ after self (map word_of words.now) }
-    {
-        let mut report = self;
-        for word in words {
-            report = report.with_sample(u64::from_le_bytes(*word));
+        for sample in samples {
+            report = report.with_sample((*sample).bits());
         }
         report
     }

@@ -1,6 +1,11 @@
-// A sample by its bits: the numbers to which its magnitude is held, its sign, and what one sign is to the next.
-ghost use Rattle.std.specs.Prelude.{◌≡◌, ◌<◌, ◌≤◌};
+// A sample by its bits, as a number or as eight bytes; the numbers to which its magnitude is held, its sign, and what one sign is to the next. Rests on
+// `words` for a number's bits.
+ghost use Rattle.std.specs.Prelude.{◌≡◌, ◌<◌, ◌≤◌, ℕ};
+ghost use Rattle.words.specs.Number.{to_word};
+ghost use Rattle.words.specs.Word.{word_of};
 ghost use Rattle.report.specs.Sample.{infinity, magnitude, sign_of, is_opposite};
+
+use words::number::to_word;
 
 pub(crate) const SIGN: u64 = 0x8000_0000_0000_0000;
 
@@ -8,9 +13,35 @@ pub(crate) const INFINITY: u64 = 0x7ff0_0000_0000_0000;
 
 pub(crate) const ONE: u64 = 0x3ff0_0000_0000_0000;
 
+// What has a sample's bits.
+pub(crate) trait Sample: Copy {
+    ghost bits_by: { Self → ℕ };
+
+    fn bits(self) -> u64
+        ensures { result ≡ bits_by self };
+}
+
+impl Sample for f64 {
+    ghost bits_by = { to_word };
+
+    fn bits(self) -> u64 {
+        to_word(self)
+    }
+}
+
+// The lowest byte comes first.
+impl Sample for [u8; 8] {
+    ghost bits_by = { word_of };
+
+    fn bits(self) -> u64 {
+        u64::from_le_bytes(self)
+    }
+}
+
 // Zeros and NaNs have neither.
-#[derive(Clone, Copy, PartialEq, Eq)]
+#[derive(Clone, Copy, PartialEq, Eq, Default)]
 pub enum Sign {
+    #[default]
     Neither,
     Positive,
     Negative,

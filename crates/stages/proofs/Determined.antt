@@ -11,6 +11,7 @@ use Rattle.magnetron.specs.declared.outputs.Outputs.{Outputs}
 use Rattle.magnetron.specs.declared.outputs.Outputs.TheVariants as outputs
 use Rattle.microwave.proofs.Asked.{asked, as_asked}
 use Rattle.stages.specs.Stage.{own}
+use Rattle.stages.proofs.kind.MachineFromFilterMachine.from.Reads as machine-of
 use Rattle.stages.proofs.kind.Kind.inputs.Reads as inputs
 use Rattle.stages.proofs.kind.Kind.second.Reads as second
 use Rattle.stages.proofs.kind.Kind.asks.Reads as asks
@@ -51,8 +52,9 @@ as_wrote : (o : Outputs) → wrote (written_by o) ≡ o
 as_wrote (outputs.One a) = refl
 as_wrote (outputs.Two a b) = refl
 
-pub kind_determined : Answer inputs.Post × Answer second.Post × Answer asks.Post × Answer numbers.Post × Answer settle.Post × Answer enter.Post
+pub kind_determined : Answer machine-of.Post × Answer inputs.Post × Answer second.Post × Answer asks.Post × Answer numbers.Post × Answer settle.Post × Answer enter.Post
 kind_determined = (
+  by_definition,
   as_follows (λ κs a r s p. sym (as_read r) ∙ ap read p),
   by_definition,
   as_follows (λ κs a r s p. sym (as_asked r) ∙ ap asked p),

@@ -87,18 +87,27 @@ fn pan_asks(left_gain: Parameter, right: Side) -> [Ask; 2]
     [required(left_gain), required(right.gain)]
 }
 
-fn filter_machine(filter: FilterType, numbers: Numbers, window: RenderWindow) -> Machine
-    ensures { result ≡ filter_machine (machine_of (with_numbers filter numbers.first numbers.second) window.sample_width_secs) }
-{
-    let machine = filter
-        .with_numbers(numbers.first, numbers.second)
-        .coefficients(window.sample_width_secs);
-    match machine {
-        FilterMachine::OnePole(one_pole) => Machine::OnePole(one_pole),
-        FilterMachine::Biquad(coefficients) => Machine::Biquad(coefficients),
+impl From<FilterMachine> for Machine {
+    ghost from_gives = { λ filter machine. machine ≡ filter_machine filter };
+
+    fn from(filter: FilterMachine) -> Machine {
+        match filter {
+            FilterMachine::OnePole(one_pole) => Machine::OnePole(one_pole),
+            FilterMachine::Biquad(coefficients) => Machine::Biquad(coefficients),
+        }
     }
 }
 
+fn filter_machine(filter: FilterType, numbers: Numbers, window: RenderWindow) -> Machine
+    ensures { result ≡ filter_machine (machine_of (with_numbers filter numbers.first numbers.second) window.sample_width_secs) }
+{
+    filter
+        .with_numbers(numbers.first, numbers.second)
+        .coefficients(window.sample_width_secs)
+        .into()
+}
+
+// Stays: no plainer: numbers, window and state go side by side, here and below: `filter_machine` and `waveguide_machine` read no state, and `enter` no window.
 fn oscillator_machine(
     oscillator: OscillatorSpec,
     driven: Option<Modulation>,
@@ -192,6 +201,7 @@ impl Kind {
     }
 
     // The numbers that answer what it asks for, 0.0 where there is none.
+    // Stays: no plainer: the asks of a kind are named once, in the functions above; an array of them has a length that differs with the kind, so no one function hands it to both.
     pub fn numbers(self, values: &[f64], seconds: f64) -> Numbers
         ensures { result ≡ numbers_of (asks_of self) values.now seconds }
     {

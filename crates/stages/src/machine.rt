@@ -36,6 +36,7 @@ pub enum Machine {
 
 impl Machine {
     // One window: `own` is the pool of the output, `ring` the stage's ring.
+    // Stays: what a loop works on goes side by side here too, for the reason and the figures at microwave's `plain_window`.
     pub fn play(
         self,
         mut state: State,

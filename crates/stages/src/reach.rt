@@ -5,6 +5,7 @@ ghost use Rattle.stages.specs.Reach.{all_within};
 use util::reach::Reach;
 
 // One answer for each of 32 stages, by stage number.
+// Stays: docs/DECISIONS.md names this record: runs hand it back, `reach_numbers` turns it into numbers for C, and `all_within` is of it.
 #[derive(Clone, Copy)]
 pub struct Reaches {
     pub stages: [Reach; 32],

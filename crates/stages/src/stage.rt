@@ -48,10 +48,7 @@ impl Stage {
         let Kind::Waveguide { waveguide, .. } = self.kind else {
             return true;
         };
-        if 32767 < waveguide.buffer_size {
-            return false;
-        }
-        state.waveguide.position < waveguide.buffer_size + 1
+        waveguide.buffer_size <= 32767 && state.waveguide.position < waveguide.buffer_size + 1
     }
 
     // How many slots the stage's ring has.

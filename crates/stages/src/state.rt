@@ -7,8 +7,9 @@ use microwave::oscillator::Phases;
 use microwave::parameter::Numbers;
 use microwave::waveguide::StringMemory;
 
+// Stays: the C interface, grynnadot_state, has what each kind remembers side by side in place of an enum.
 #[repr(C)]
-#[derive(Clone, Copy)]
+#[derive(Clone, Copy, Default)]
 pub struct State {
     pub oscillator: Phases,
     pub one_pole: OnePoleMemory,
@@ -17,6 +18,7 @@ pub struct State {
 }
 
 // One record for each of 32 stages, by stage number.
+// Stays: the C interface, grynnadot_states, has 32 of them in a record in place of a slice.
 #[repr(C)]
 #[derive(Clone, Copy)]
 pub struct States {
@@ -27,27 +29,7 @@ pub struct States {
 pub fn new_state() -> State
     ensures { result ≡ new_state }
 {
-    State {
-        oscillator: Phases {
-            phase: 0.0,
-            saved: 0.0,
-        },
-        one_pole: OnePoleMemory {
-            low: 0.0,
-            high: 0.0,
-            last_input: 0.0,
-        },
-        biquad: Biquad {
-            y1: 0.0,
-            y2: 0.0,
-            x1: 0.0,
-            x2: 0.0,
-        },
-        waveguide: StringMemory {
-            low_pass: 0.0,
-            position: 0,
-        },
-    }
+    State::default()
 }
 
 pub fn new_states() -> States

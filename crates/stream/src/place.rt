@@ -26,6 +26,7 @@ pub enum State {
 
 // The place in both streams: what of the input's buffer is unread, how many bytes of the output's are to be sent, and whether all is over.
 // With it go the streams themselves, which are nothing but the leave to read and to write.
+// Stays: `filled` beside `output` and `unread` beside `input`, since there is no heap: each is a buffer of fixed size, filled and sent again and again.
 #[derive(Drop)]
 pub struct Place {
     pub input: Buffer,
@@ -56,10 +57,7 @@ impl Place {
     pub fn is_over(&self) -> bool
         ensures { result ≡ over_of self.now.state }
     {
-        match self.state {
-            State::Going => false,
-            State::Ended | State::Refused => true,
-        }
+        self.state != State::Going
     }
 
     // All is over, and a last word is to say that it ended amiss.
@@ -97,6 +95,8 @@ impl Place {
     }
 
     // A word inside a case. Where there is none the case is refused, and the word is 0.
+    // Stays: no `?` leaves a case early, since the program writes what it wrote on bad input too, and what it writes of the case at fault comes of
+    // the words after the fault.
     pub fn next(&mut self) -> u64 {
         let word = self.take_word();
         self.refuse_if(word.is_none());
@@ -127,6 +127,19 @@ impl Place {
             *word = self.next();
         }
         words
+    }
+
+    // So many parts of a case, each answered as it is read, so that the count may be any word. False where all was over before the last.
+    pub fn each<F: FnMut(&mut Place)>(&mut self, count: u64, mut answer: F) -> bool
+        requires { F.IsAlwaysCallable answer }
+    {
+        for _ in 0..count {
+            if self.is_over() {
+                return false;
+            }
+            answer(self);
+        }
+        true
     }
 
     // All the samples are read. Where the input ends before the last, the case is refused and the others stay.
@@ -233,6 +246,7 @@ impl Place {
 // What is unread moves to the front, and more is read behind it, until `want` bytes are there or the input ends.
 fn refill(unread: Cursor, stdin: Stdin, input: &mut [u8], want: usize) -> Cursor {
     let mut end = unread.front(input).end;
+    // Stays: a read brings as many bytes as it likes, by which no iterator counts.
     while end < want {
         let more = read_behind(stdin, input, end);
         if more == 0 {

@@ -29,6 +29,7 @@ impl AllPassDelay {
     }
 
     // At the whole delay.
+    // Stays: docs/CONTRACTS.md names `process_sample` and `process_sample_fract`, each with its promise; both are the one `process`.
     #[tactic(auto, unfolding(crate::specs::AllPass::passed))]
     pub fn process_sample(self, ring: &mut [f64], input: f64) -> Answered<AllPassDelay>
         ensures { outcome result ring.new ≡ passed read.Whole self ring.old input }

@@ -32,6 +32,7 @@ pub type TunedComb = Comb<LowPassGain, SoftClip>;
 
 impl<R: Interaction, L: Interaction> Comb<R, L> {
     // At the whole delay.
+    // Stays: docs/CONTRACTS.md names `process_sample` and `process_sample_fract`, each with its promise; both are the one `process`.
     #[tactic(auto, unfolding(crate::specs::Comb::combed))]
     pub fn process_sample(self, ring: &mut [f64], input: f64) -> Answered<Comb<R, L>>
         ensures { outcome result ring.new ≡ combed R.means L.means read.Whole self ring.old input }

@@ -28,7 +28,7 @@ pub struct Delay {
 }
 
 // How a ring is read: at the whole delay, or at a fraction of its length.
-// Stays: the definitions `reading_of`, `tapped`, `combed` and `passed`, and the listed case `ring_read`, name both cases, where a None would say nothing.
+// Stays: the new form is no plainer: as `Option<f64>`, None would stand for a place, the slot after the position (01), and no `get(ring, None)` says that.
 #[derive(Clone, Copy)]
 pub enum Read {
     Whole,
@@ -91,6 +91,7 @@ impl Cursor {
     }
 
     // The sample at the whole delay: the slot after the position.
+    // Stays: 01 and docs/CONTRACTS.md name `get_delayed`, a promise of its own beside `get_delayed_fract`; both are the one `get`.
     pub fn get_delayed(self, ring: &[f64]) -> Answered<Cursor>
         ensures { result ≡ tapped read.Whole self ring.now }
     {
@@ -104,6 +105,7 @@ impl Cursor {
         self.get(ring, Read::Fract(fract_offset))
     }
 
+    // Stays: one form with `RingFilter::process` is no plainer: `get` is lent the ring to read, a filter to write, so that it takes a place, a reading, a state and a closure.
     #[tactic(auto, unfolding(crate::specs::DelayLine::tapped))]
     fn get(self, ring: &[f64], read: Read) -> Answered<Cursor>
         ensures { result ≡ tapped read self ring.now }

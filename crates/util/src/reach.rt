@@ -4,10 +4,10 @@ ghost use Rattle.util.specs.Reach.{reach_of, number_of};
 
 #[derive(Clone, Copy, PartialEq, Eq)]
 pub enum Reach {
-    Within,
-    Below,
-    Above,
-    NotANumber,
+    Within = 0,
+    Below = 1,
+    Above = 2,
+    NotANumber = 3,
 }
 
 // Judged of the fraction as it was given, not as it is held: -0.0, 0 and 1 are within.
@@ -16,15 +16,14 @@ pub(crate) fn reach_of(fract_offset: f64) -> Reach
     ensures { result ≡ reach_of fract_offset }
 {
     if fract_offset.is_nan() {
-        return Reach::NotANumber;
+        Reach::NotANumber
+    } else if fract_offset < 0.0 {
+        Reach::Below
+    } else if 1.0 < fract_offset {
+        Reach::Above
+    } else {
+        Reach::Within
     }
-    if fract_offset < 0.0 {
-        return Reach::Below;
-    }
-    if 1.0 < fract_offset {
-        return Reach::Above;
-    }
-    Reach::Within
 }
 
 // The number by which it is told.
@@ -32,12 +31,7 @@ impl From<Reach> for u8 {
     ghost from_gives = { λ reach n. n ≡ number_of reach };
 
     fn from(reach: Reach) -> u8 {
-        match reach {
-            Reach::Within => 0,
-            Reach::Below => 1,
-            Reach::Above => 2,
-            Reach::NotANumber => 3,
-        }
+        reach as u8
     }
 }
 

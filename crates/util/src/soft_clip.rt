@@ -17,18 +17,14 @@ impl Interaction for SoftClip {
     fn process_sample(mut self, input: f64) -> Step<SoftClip> {
         let until = self.linear_until;
         let magnitude = numbers::small::absolute(input);
-        if magnitude <= until {
-            return Step {
-                next: self,
-                sample: input,
-            };
-        }
-        let overshoot = magnitude - until;
-        let bent = until + overshoot / (overshoot / (1.0 - until) + 1.0);
-        Step {
-            next: self,
-            sample: numbers::small::copysign(bent, input),
-        }
+        let sample = if magnitude <= until {
+            input
+        } else {
+            let overshoot = magnitude - until;
+            let bent = until + overshoot / (overshoot / (1.0 - until) + 1.0);
+            numbers::small::copysign(bent, input)
+        };
+        Step { next: self, sample }
     }
 
     // It delays by no sample.

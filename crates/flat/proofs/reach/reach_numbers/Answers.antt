@@ -1,23 +1,8 @@
-use mathlib.Core.Path.{◌≡◌, refl}
-use native.Mathlib.Omega.{arith}
-use lib.ListN.{length-set}
-use lib.Seq.{take_all}
-use Rattle.magnetron.specs.Signals.{tab}
-use Rattle.flat.proofs.reach.Told.{told, next_told}
+-- `flat::reach::reach_numbers` meets its contract: each number is that of the answer there. Assumes nothing.
+use Rattle.std.proofs.Common.{rules}
+use Rattle.util.specs.declared.reach.Reach.TheVariants.{Within}
+use Rattle.magnetron.proofs.Bridge.{tab_of}
 use Rattle.flat.proofs.reach.reach_numbers.Goals as goal
 
-pub loop-k-init : goal.loop-k-init
-loop-k-init c = (refl, unfold tab in refl)
-
-pub loop-k-preserved : goal.loop-k-preserved
-loop-k-preserved c =
-    let w = c.loop-k in (
-      rw length-set w.invariant.0,
-      next_told (told c.args.reaches) w.numbers w.k _ (omega arith) w.invariant.1 c.from.ensures,
-    )
-
 pub returns : goal.returns
-returns c =
-    let w = c.loop-k in
-    let e : w.k ≡ 32 = omega arith in
-    rw (take_all 32 w.numbers (omega arith)) at (rw e at w.invariant.1)
+returns c = tab_of _ 32 _ 0 c.map.ensures.items.long (λ k h. search (rules, c.map.ensures.items.at k Within 0 h))

@@ -1,2 +1,0 @@
--- Laws that the proofs of `flat::reach` alone cite.
-mod Told
