@@ -79,7 +79,7 @@ fn run_order(
 
 // A run of n samples, each `width` seconds wide. Answers the greatest activity, or the first refusal; and by stage number whether the last sample
 // of its string was within its ring.
-// Stays: the new form is no plainer: host and rendersaw, two of the three callers, have each of these by itself, as C hands them to `grynnadot_run`, and would make a record for this one call.
+// Stays: the new form is no plainer: host has each of these by itself, as C hands them to `grynnadot_run`, and rendersaw as it made them; each would make a record for this one call.
 pub fn run(
     patch: Patch,
     order: &[u8],

@@ -23,7 +23,7 @@ use stages::window::RenderWindow;
 use util::reach::Reach;
 
 // Where the loop that writes `output` finds the inputs.
-// Stays: the new form is no plainer: magnetron's `put` takes inputs apart too, but into what a single write puts, so that one match for both would hand on what neither asks for.
+// Stays: the new form is no plainer: magnetron's `put` takes inputs apart too, but after one match for both it would have to ask again whether it is a copy or a product.
 fn sources(inputs: Inputs, pools: Pools, marks: Marks, output: BufferIndex) -> Sources
     requires { Placed pools (list_of inputs) }
     ensures { result ≡ sources_of pools marks output (list_of inputs) }

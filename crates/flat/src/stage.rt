@@ -44,7 +44,7 @@ pub struct FlatStage {
 }
 
 // Here and below, None where a number names nothing.
-// Stays: no plainer as `TryFrom`: the enums are other crates', so that none may stand here from a `usize`, and its error would say no more than None does.
+// Stays: no plainer as `TryFrom`: from a `usize` none may stand here, as the enums are other crates'; from the records of this file its error would say no more than None does.
 #[tactic(auto, unfolding(crate::specs::Stage::parameter_of))]
 fn parameter_of(p: FlatParameter) -> Option<Parameter>
     ensures { result ≡ named_parameter p }

@@ -21,7 +21,7 @@ pub struct Ask {
 }
 
 // The number that answers. There is none for a slot past the lent values, or for a required parameter that is absent.
-// Stays: the new form is no plainer: values and seconds go side by side here and below, as a run is lent the one and works out the other; a record of both would be made for each look-up and taken apart in it.
+// Stays: the new form is no plainer: values and seconds go side by side here and below; a record of both would be made for a stage's check and for its turn, and handed down to be taken apart here.
 pub fn lookup(ask: Ask, values: &[f64], seconds: f64) -> Option<f64>
     ensures { result ≡ looked ask values.now seconds }
 {
