@@ -5,6 +5,8 @@ use Rattle.answers.proofs.refusal.unless.Reads as unless
 use Rattle.answers.proofs.refusal.refusal_unless.Reads as refusal-unless
 use Rattle.answers.proofs.refusal.activity_of.Reads as activity-of
 use Rattle.answers.proofs.refusal.Told.of.Reads as told-of
+use Rattle.answers.proofs.refusal.Told.refusal.Reads as told-refusal
+use Rattle.answers.proofs.refusal.Told.refusal_unless.Reads as told-unless
 use Rattle.answers.proofs.refusal.UsizeFromReason.from.Reads as number-of
 use Rattle.answers.proofs.refusal.RefusalFromReason.from.Reads as refusal-of
 use Rattle.answers.proofs.activity.U8FromStageActivity.from.Reads as rank
@@ -21,6 +23,9 @@ refusal_determined = (by_definition, by_definition, by_definition)
 -- of an answer of any type
 pub told_determined : (T : _) (L : _) (C : _) (g : _) (d : _) → Answer (told-of.Post T L C g d)
 told_determined T L C g d = by_definition
+
+pub told_by_determined : Answer told-refusal.Post × Answer told-unless.Post
+told_by_determined = (by_definition, by_definition)
 
 pub heard_determined : Answer activity-of.Post
 heard_determined = by_definition

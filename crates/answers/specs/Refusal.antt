@@ -47,6 +47,11 @@ abbrev pub told_of : {T : Type 0} → Result T Refusal → Told
 told_of (Ok t) = record { number = 0; stage = 32 }
 told_of (Err r) = record { number = number_of r.reason; stage = stage_number r.stage }
 
+-- the same of checks that have numbers, whichever these are
+abbrev pub told_by : found.Option ℕ → Told
+told_by found.none = record { number = 0; stage = 32 }
+told_by (found.some r) = record { number = r; stage = 32 }
+
 -- ".. and Exhausted"
 abbrev pub activity_of : Result StageActivity Refusal → StageActivity
 activity_of (Ok a) = a

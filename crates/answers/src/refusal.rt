@@ -1,7 +1,8 @@
 // Why a call is refused, and at which stage; and what a call that may be refused answers.
 ghost use Rattle.std.specs.Prelude.{◌≡◌, None};
+ghost use Rattle.std.proofs.Math.Option.{some};
 ghost use Rattle.order.specs.Checks.{unless};
-ghost use Rattle.answers.specs.Refusal.{number_of, result_of, verdict_of, told_of, activity_of};
+ghost use Rattle.answers.specs.Refusal.{number_of, result_of, verdict_of, told_of, told_by, activity_of};
 
 use crate::activity::StageActivity;
 
@@ -97,6 +98,24 @@ impl Told {
                 number: refusal.reason.into(),
                 stage: refusal.stage.unwrap_or(32),
             },
+        }
+    }
+
+    // A refusal by any number, which names no stage.
+    pub fn refusal(number: usize) -> Told
+        ensures { result ≡ told_by (some number) }
+    {
+        Told { number, stage: 32 }
+    }
+
+    // A refusal by this number where the test fails, else what is done.
+    pub fn refusal_unless(passed: bool, number: usize) -> Told
+        ensures { result ≡ told_by (unless passed number) }
+    {
+        if passed {
+            Told::of(Ok(()))
+        } else {
+            Told::refusal(number)
         }
     }
 }
