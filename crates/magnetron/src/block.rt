@@ -13,7 +13,7 @@ use crate::source::{Source, fetch};
 use std::array;
 
 // What a function answers at 0 to 7.
-pub fn block_of<F: Fn(usize) -> f64>(f: F) -> [f64; 8]
+pub(crate) fn block_of<F: Fn(usize) -> f64>(f: F) -> [f64; 8]
     requires { (k : ℕ) → k < 8 → F.pre f k }
     ensures long { length result ≡ 8 }
     ensures each { (k : ℕ) → k < 8 → F.post f k (get_or result k nan) }

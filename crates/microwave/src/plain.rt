@@ -68,7 +68,7 @@ impl Shaping for Gain {
 }
 
 // What is made of eight samples of each input.
-// Stays: by magnetron's `block_of`, a sample of a window of 64 takes 1.02 to 1.03 times as long for Pow3 and RingModulator, 1.04 times for Pan.
+// Stays: by a closure for each of the eight, as magnetron's blocks are made, a sample of a window of 64 takes 1.02 to 1.03 times as long for Pow3 and RingModulator, 1.04 times for Pan.
 pub(crate) fn shaped_block<S: Shaping>(shape: S, first: [f64; 8], second: [f64; 8]) -> [f64; 8]
     ensures { result ≡ tab 8 (λ k. S.shaped_by shape (slice_index_or first k nan) (slice_index_or second k nan)) }
 {
