@@ -11,7 +11,9 @@ use flat::patch::no_parameter;
 use flat::stage::FlatParameter;
 
 impl<'a> Reading<'a> {
-    // Its mark, and what the mark says that there is: bits, or a slot.
+    // Its mark, and what the mark says that there is: bits, or a slot. In line, so that the offset need not lie in memory: a file of 30 stages takes half
+    // as long again where it does.
+    #[inline(always)]
     pub(crate) fn parameter(&mut self) -> Result<FlatParameter, Fault>
         ensures said { told result self.new.offset ≡ parameter self.old.bytes.now self.old.offset }
         ensures kept { self.new.bytes ≡ self.old.bytes }
