@@ -107,11 +107,12 @@ pub extern "C" fn grynnadot_run(
         ≡ flat_run_of patch (given (patch_of patch) pools states n width internal.old external.old zeros.now rings.old values.now)
         order.now }
 {
-    match patch_of(patch) {
-        Err(unknown) => unknown_ran(unknown.stage, pools, states),
-        Ok(known) => run(
-            known, order, pools, states, n, width, internal, external, zeros, rings, values,
-        )
-        .into(),
-    }
+    let known = match patch_of(patch) {
+        Err(unknown) => return unknown_ran(unknown.stage, pools, states),
+        Ok(known) => known,
+    };
+    run(
+        known, order, pools, states, n, width, internal, external, zeros, rings, values,
+    )
+    .into()
 }
