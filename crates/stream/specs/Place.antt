@@ -52,6 +52,10 @@ wrote taken w p =
     let put = put_of q.output q.filled w in
     if_stored put.0 (λ next. filled_to next (holding put.1 q)) (refused_at (holding put.1 q))
 
+-- the answers that were gathered stay, and how many of their bytes are to be sent
+abbrev pub Kept : Place → Place → Type 0
+Kept a b = (b.output ≡ a.output) × (b.filled ≡ a.filled)
+
 -- one of the two things that standard output may do
 unfoldable pub Told : {A : Type 0} → (Bool → A) → A → Type 0
 Told f r = (r ≡ f true) ⊎ (r ≡ f false)

@@ -3,10 +3,10 @@
 // of the functions that do not read, that answer is all that the contracts leave open.
 ghost use Rattle.std.specs.Prelude.{◌≡◌, [], ◌∷◌, map, ◌-◌, ◌≤◌, length, take};
 ghost use Rattle.words.specs.Number.{to_word};
-ghost use Rattle.stream.specs.Place.{started, over_of, refused_at, refused_if, sent, cleared_by, flag_word, Told, Writes, WritesFirst};
+ghost use Rattle.stream.specs.Place.{started, over_of, refused_at, refused_if, sent, cleared_by, flag_word, Kept, Told, Writes, WritesFirst};
 
 use std::io::{Read, Stdin, Stdout};
-use words::number::{from_word, to_word};
+use words::number::to_word;
 use words::reader::Cursor;
 use words::writer::put;
 
@@ -27,7 +27,7 @@ pub enum State {
 // The place in both streams: what of the input's buffer is unread, how many bytes of the output's are to be sent, and whether all is over.
 // With it go the streams themselves, which are nothing but the leave to read and to write.
 // Stays: `filled` beside `output` and `unread` beside `input`, since there is no heap: each is a buffer of fixed size, filled and sent again and again.
-#[derive(Drop)]
+#[derive(Clone, Copy)]
 pub struct Place {
     pub input: Buffer,
     pub unread: Cursor,
@@ -76,7 +76,9 @@ impl Place {
     }
 
     // The word that a case begins with; None where all is over. The input may end before it.
-    pub fn next_case(&mut self) -> Option<u64> {
+    pub fn next_case(&mut self) -> Option<u64>
+        ensures { self.new.output ≡ self.old.output }
+    {
         self.clear(8);
         self.ready(8);
         if self.unread.left() == 0 {
@@ -88,7 +90,9 @@ impl Place {
     }
 
     // No case is left. What is refused stays so.
-    fn end(&mut self) {
+    fn end(&mut self)
+        ensures { Kept self.old self.new }
+    {
         if self.state == State::Going {
             self.state = State::Ended;
         }
@@ -97,7 +101,9 @@ impl Place {
     // A word inside a case. Where there is none the case is refused, and the word is 0.
     // Stays: no `?` leaves a case early, since the program writes what it wrote on bad input too, and what it writes of the case at fault comes of
     // the words after the fault.
-    pub fn next(&mut self) -> u64 {
+    pub fn next(&mut self) -> u64
+        ensures { Kept self.old self.new }
+    {
         let word = self.take_word();
         self.refuse_if(word.is_none());
         word.unwrap_or(0)
@@ -105,7 +111,8 @@ impl Place {
 
     // A word of at most `most`. Any other has no meaning: the case is refused, and the word is 0.
     pub fn next_up_to(&mut self, most: u64) -> u64
-        ensures { result ≤ most }
+        ensures bound { result ≤ most }
+        ensures kept { Kept self.old self.new }
     {
         let word = self.next();
         if word <= most {
@@ -116,12 +123,16 @@ impl Place {
     }
 
     // A word where one is wanted, else 0 with nothing read.
-    pub fn next_if(&mut self, wanted: bool) -> u64 {
+    pub fn next_if(&mut self, wanted: bool) -> u64
+        ensures { Kept self.old self.new }
+    {
         if wanted { self.next() } else { 0 }
     }
 
     // The next words, as many as are asked for of N; the others are 0.
-    pub fn next_words<const N: usize>(&mut self, count: usize) -> [u64; N] {
+    pub fn next_words<const N: usize>(&mut self, count: usize) -> [u64; N]
+        ensures { Kept self.old self.new }
+    {
         let mut words = [0; N];
         for word in words.iter_mut().take(count) {
             *word = self.next();
@@ -142,18 +153,27 @@ impl Place {
         true
     }
 
-    // All the samples are read. Where the input ends before the last, the case is refused and the others stay.
-    pub fn read_samples(&mut self, samples: &mut [f64]) {
-        for sample in samples {
-            let Some(word) = self.take_word() else {
+    // All the samples are read, as many at once as are unread. Where the input ends before the last, the case is refused and the others stay.
+    pub fn read_samples(&mut self, samples: &mut [f64])
+        ensures { Kept self.old self.new }
+    {
+        let mut count = 0;
+        // Stays: `Cursor::fill` takes as many samples as are unread, by which no iterator counts.
+        while count < samples.len() {
+            self.ready(8);
+            let filled = self.unread.fill(&self.input, samples, count);
+            self.unread = filled.cursor;
+            if filled.next <= count {
                 return self.refuse();
-            };
-            *sample = from_word(word);
+            }
+            count = filled.next;
         }
     }
 
     // The first samples are read; where there are not so many, the case is refused.
-    pub fn read_first(&mut self, samples: &mut [f64], count: usize) {
+    pub fn read_first(&mut self, samples: &mut [f64], count: usize)
+        ensures { Kept self.old self.new }
+    {
         match samples.get_mut(..count) {
             Some(first) => self.read_samples(first),
             None => self.refuse(),
@@ -161,7 +181,9 @@ impl Place {
     }
 
     // The next word, where the input has one.
-    fn take_word(&mut self) -> Option<u64> {
+    fn take_word(&mut self) -> Option<u64>
+        ensures { Kept self.old self.new }
+    {
         self.ready(8);
         let (word, rest) = self.unread.take(&self.input)?;
         self.unread = rest;
@@ -169,7 +191,9 @@ impl Place {
     }
 
     // At least `want` bytes are unread, or the input has ended.
-    pub fn ready(&mut self, want: usize) {
+    pub fn ready(&mut self, want: usize)
+        ensures { Kept self.old self.new }
+    {
         if self.unread.left() < want && !self.is_over() {
             self.unread = refill(self.unread, self.stdin, &mut self.input, want);
         }
