@@ -63,10 +63,11 @@ fn read_response(place: &mut Place) -> AnyInteraction {
     AnyInteraction::LowPassGain(LowPassGain { first, second })
 }
 
-// 0 is a gain, 1 a soft clip.
+// 0 is a gain, 1 a soft clip. Any other has no meaning: the case is refused once the level is read, since of a refused case the input is not read on.
 fn read_limit(place: &mut Place) -> AnyInteraction {
-    let limit = place.next_up_to(1);
+    let limit = place.next();
     let level = from_word(place.next());
+    place.refuse_if(limit > 1);
     if limit == 0 {
         return AnyInteraction::Gain(level);
     }

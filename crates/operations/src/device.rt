@@ -12,7 +12,7 @@ use util::reach::Reach;
 use util::soft_clip::SoftClip;
 use words::number::{from_word, to_word};
 
-// Which device a case is about.
+// Which device a case is about, by the case's sort.
 #[derive(Clone, Copy, PartialEq, Eq)]
 pub enum Sort {
     Ring,
@@ -20,6 +20,18 @@ pub enum Sort {
     LowPass,
     Comb,
     AllPass,
+}
+
+// The device of a case's sort, where it has one.
+fn sort_of(number: u64) -> Option<Sort> {
+    match number {
+        3 => Some(Sort::Ring),
+        4 => Some(Sort::SoftClip),
+        5 => Some(Sort::LowPass),
+        6 => Some(Sort::Comb),
+        7 => Some(Sort::AllPass),
+        _ => None,
+    }
 }
 
 // What is the same of all devices: a case sets one up, asks it, and is told what it remembers. One without a ring is lent an empty one.
@@ -34,14 +46,15 @@ pub(crate) trait Device: Drop {
     fn write_end(&self, place: &mut Place, ring: &[f64]);
 }
 
-// A case, from the word after its sort on.
-pub fn answer(place: &mut Place, sort: Sort, rings: &mut [f64]) {
-    match sort {
-        Sort::Ring => answer_on_ring::<Cursor>(place, rings),
-        Sort::SoftClip => answer_at::<SoftClip>(place, &mut [], 0),
-        Sort::LowPass => answer_at::<OnePoleLowPass>(place, &mut [], 0),
-        Sort::Comb => answer_on_ring::<CombFilter>(place, rings),
-        Sort::AllPass => answer_on_ring::<AllPassDelay>(place, rings),
+// A case, from the word after its sort on. A sort that is no device's is refused.
+pub fn answer(place: &mut Place, sort: u64, rings: &mut [f64]) {
+    match sort_of(sort) {
+        Some(Sort::Ring) => answer_on_ring::<Cursor>(place, rings),
+        Some(Sort::SoftClip) => answer_at::<SoftClip>(place, &mut [], 0),
+        Some(Sort::LowPass) => answer_at::<OnePoleLowPass>(place, &mut [], 0),
+        Some(Sort::Comb) => answer_on_ring::<CombFilter>(place, rings),
+        Some(Sort::AllPass) => answer_on_ring::<AllPassDelay>(place, rings),
+        None => place.refuse(),
     }
 }
 

@@ -2,7 +2,7 @@
 // refuses. Rests on `stream` for the words.
 ghost use Rattle.std.specs.Prelude.{◌≡◌, ◌↔◌, IsSome, IfSome, map, take};
 ghost use Rattle.magnetron.specs.Pools.{marks_in};
-ghost use Rattle.stream.specs.Place.{flag_word, Writes};
+ghost use Rattle.stream.specs.Place.{flag_word, Kept, Writes};
 ghost use Rattle.operations.specs.Lent.{Fit};
 ghost use Rattle.operations.specs.Marks.{mark_words};
 
@@ -69,7 +69,9 @@ impl Memory {
 
 impl Lent<'_> {
     // What the slices hold that go with pools.
-    pub fn read_pools(&mut self, place: &mut Place) {
+    pub fn read_pools(&mut self, place: &mut Place)
+        ensures { Kept place.old place.new }
+    {
         place.read_samples(self.internal);
         place.read_samples(self.external);
         place.read_samples(self.zeros);
@@ -84,7 +86,9 @@ pub struct Sizes {
 }
 
 // Nothing is stale yet. Neither values nor rings are lent yet.
-pub fn read_sizes(place: &mut Place) -> Sizes {
+pub fn read_sizes(place: &mut Place) -> Sizes
+    ensures { Kept place.old place.new }
+{
     Sizes {
         pools: Pools {
             internal: read_pool(place),
@@ -101,7 +105,9 @@ pub fn read_sizes(place: &mut Place) -> Sizes {
     }
 }
 
-fn read_pool(place: &mut Place) -> Pool {
+fn read_pool(place: &mut Place) -> Pool
+    ensures { Kept place.old place.new }
+{
     Pool {
         count: place.next() as usize,
         capacity: place.next() as usize,
@@ -110,12 +116,16 @@ fn read_pool(place: &mut Place) -> Pool {
 }
 
 // The marks of both pools.
-pub fn read_marks(place: &mut Place, pools: &mut Pools) {
+pub fn read_marks(place: &mut Place, pools: &mut Pools)
+    ensures { Kept place.old place.new }
+{
     pools.internal.stale = read_pool_marks(place);
     pools.external.stale = read_pool_marks(place);
 }
 
-fn read_pool_marks(place: &mut Place) -> [bool; 16] {
+fn read_pool_marks(place: &mut Place) -> [bool; 16]
+    ensures { Kept place.old place.new }
+{
     let mut stale = [false; 16];
     for mark in stale.iter_mut() {
         *mark = place.next() != 0;

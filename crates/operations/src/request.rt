@@ -11,6 +11,15 @@ pub enum Sort {
     Prepare,
 }
 
+// Which of the two a case's sort is, where it is one.
+pub(crate) fn sort_of(number: u64) -> Option<Sort> {
+    match number {
+        8 => Some(Sort::Single),
+        9 => Some(Sort::Prepare),
+        _ => None,
+    }
+}
+
 // What a single write puts into its output: as many lent values as it says, one buffer's samples, or the product of two.
 #[derive(Clone, Copy)]
 pub(crate) enum Content {

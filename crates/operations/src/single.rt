@@ -4,13 +4,22 @@
 use crate::operation::answer_one;
 use crate::pools::{CELLS, Lengths, Lent, Memory, read_marks, read_sizes, write_marks};
 pub use crate::request::Sort;
+use crate::request::sort_of;
 use magnetron::lent::LentMut;
 use magnetron::pool::Pools;
 use stream::place::Place;
 
-// A case, from the word after its sort on. Where a slice would be longer than what is lent for it, the case is refused. The values of a write
-// come where the cells of rings lie, of which these sorts have none.
-pub fn answer(place: &mut Place, sort: Sort, memory: &mut Memory) {
+// A case, from the word after its sort on. A sort other than these two is refused.
+pub fn answer(place: &mut Place, sort: u64, memory: &mut Memory) {
+    match sort_of(sort) {
+        Some(sort) => answer_over(place, sort, memory),
+        None => place.refuse(),
+    }
+}
+
+// Where a slice would be longer than what is lent for it, the case is refused. The values of a write come where the cells of rings lie, of which
+// these sorts have none.
+fn answer_over(place: &mut Place, sort: Sort, memory: &mut Memory) {
     let sizes = read_sizes(place);
     let lengths = Lengths {
         rings: CELLS,
