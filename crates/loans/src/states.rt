@@ -1,4 +1,7 @@
 // The states of all stages, eleven words each, in and out. Rests on `stream` for the words and on `words` for a number's bits.
+ghost use Rattle.std.specs.Prelude.{◌≡◌};
+ghost use Rattle.stream.specs.Place.{Kept};
+
 use microwave::filter::{Biquad, OnePoleMemory};
 use microwave::oscillator::Phases;
 use microwave::waveguide::StringMemory;
@@ -6,7 +9,9 @@ use stages::state::{State, States, new_states};
 use stream::place::Place;
 use words::number::{from_word, to_word};
 
-pub fn read_states(place: &mut Place) -> States {
+pub fn read_states(place: &mut Place) -> States
+    ensures { Kept place.old place.new }
+{
     let mut states = new_states();
     for state in states.stages.iter_mut() {
         *state = read_state(place);
@@ -14,14 +19,18 @@ pub fn read_states(place: &mut Place) -> States {
     states
 }
 
-pub fn write_states(place: &mut Place, states: States) {
+pub fn write_states(place: &mut Place, states: States)
+    ensures { place.new.input ≡ place.old.input }
+{
     for state in states.stages.iter() {
         write_state(place, *state);
     }
 }
 
 // The numbers of a state come in the order of the fields, and the position last.
-fn read_state(place: &mut Place) -> State {
+fn read_state(place: &mut Place) -> State
+    ensures { Kept place.old place.new }
+{
     State {
         oscillator: Phases {
             phase: from_word(place.next()),
@@ -45,7 +54,9 @@ fn read_state(place: &mut Place) -> State {
     }
 }
 
-fn write_state(place: &mut Place, state: State) {
+fn write_state(place: &mut Place, state: State)
+    ensures { place.new.input ≡ place.old.input }
+{
     place.write_words(&[
         to_word(state.oscillator.phase),
         to_word(state.oscillator.saved),
