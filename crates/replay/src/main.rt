@@ -10,7 +10,7 @@ mod window;
 
 use crate::sort::Sort;
 use operations::pools::{CELLS, Memory};
-use stream::place::{Place, State};
+use stream::place::{Buffer, Place, ROOM, State};
 
 // The word that ends the answers where a case is refused.
 const REFUSED: u64 = 0xffff_ffff_ffff_ffff;
@@ -24,14 +24,16 @@ fn main(rt: HostRuntime) {
         values: [0.0; 64],
         rings: [0.0; CELLS],
     };
-    answer_all(&mut place, &mut memory);
+    let mut file = [0; ROOM];
+    answer_all(&mut place, &mut memory, &mut file);
     finish(&mut place);
 }
 
-// Answers case after case. Nothing says that the input ends, and a proved loop has to: no run uses up so many turns.
-fn answer_all(place: &mut Place, memory: &mut Memory) {
+// Answers case after case. What a case lends, and its file's bytes, lie where those of the case before lay. Nothing says that the input ends, and
+// a proved loop has to: no run uses up so many turns.
+fn answer_all(place: &mut Place, memory: &mut Memory, file: &mut Buffer) {
     for _ in 0..u64::MAX {
-        answer_next(place, memory);
+        answer_next(place, memory, file);
         if place.is_over() {
             return;
         }
@@ -39,7 +41,7 @@ fn answer_all(place: &mut Place, memory: &mut Memory) {
 }
 
 // Answers one case, by its sort.
-fn answer_next(place: &mut Place, memory: &mut Memory) {
+fn answer_next(place: &mut Place, memory: &mut Memory, file: &mut Buffer) {
     let Some(number) = place.next_case() else {
         return;
     };
@@ -48,7 +50,7 @@ fn answer_next(place: &mut Place, memory: &mut Memory) {
         Ok(Sort::Functions) => operations::functions::answer_case(place, &mut memory.internal),
         Ok(Sort::Device(sort)) => operations::device::answer(place, sort, &mut memory.rings),
         Ok(Sort::Pools(sort)) => operations::single::answer(place, sort, memory),
-        Ok(Sort::PatchFile) => patch_file::answer(place),
+        Ok(Sort::PatchFile) => patch_file::answer(place, file),
         Err(_) => place.refuse(),
     }
 }

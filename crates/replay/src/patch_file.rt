@@ -7,10 +7,9 @@ use stream::place::{Buffer, Place, ROOM};
 use words::writer::put;
 
 // A case, from the word after its sort on. A file has as many bytes as a buffer at the most.
-pub(crate) fn answer(place: &mut Place) {
-    let mut file = [0; ROOM];
+pub(crate) fn answer(place: &mut Place, file: &mut Buffer) {
     let length = place.next_up_to(ROOM as u64) as usize;
-    gather(place, &mut file, length);
+    gather(place, file, length);
     if place.is_over() {
         return;
     }

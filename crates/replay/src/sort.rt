@@ -1,12 +1,10 @@
-// The sorts of cases, by the number that each begins with. Rests on `operations` for those that it answers.
-use operations::{device, single};
-
+// The sorts of cases, by the number that each begins with. Of those that `operations` answers the number goes on to it. Rests on nothing.
 #[derive(Clone, Copy, PartialEq, Eq)]
 pub(crate) enum Sort {
     Session,
     Functions,
-    Device(device::Sort),
-    Pools(single::Sort),
+    Device(u64),
+    Pools(u64),
     PatchFile,
 }
 
@@ -21,13 +19,8 @@ impl TryFrom<u64> for Sort {
         match number {
             1 => Ok(Sort::Session),
             2 => Ok(Sort::Functions),
-            3 => Ok(Sort::Device(device::Sort::Ring)),
-            4 => Ok(Sort::Device(device::Sort::SoftClip)),
-            5 => Ok(Sort::Device(device::Sort::LowPass)),
-            6 => Ok(Sort::Device(device::Sort::Comb)),
-            7 => Ok(Sort::Device(device::Sort::AllPass)),
-            8 => Ok(Sort::Pools(single::Sort::Single)),
-            9 => Ok(Sort::Pools(single::Sort::Prepare)),
+            3..=7 => Ok(Sort::Device(number)),
+            8 | 9 => Ok(Sort::Pools(number)),
             10 => Ok(Sort::PatchFile),
             _ => Err(UnknownSort),
         }

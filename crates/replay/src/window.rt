@@ -1,5 +1,7 @@
 // One window of a session: what the host does first, then prepare and the run, and the answer. Rests on magnetron's `prepare` and the
 // engine's `run`, which refuse what is bad.
+ghost use Rattle.std.specs.Prelude.{◌≤◌, length};
+
 use crate::reaches::write_reaches;
 use crate::session::Session;
 use answers::refusal::{Answer, Refusal, Verdict, activity_of};
@@ -126,7 +128,9 @@ fn read_opening(place: &mut Place) -> Opening {
 }
 
 // At most 64 numbers, each of at most 255.
-fn read_order<'a>(place: &mut Place, numbers: &'a mut [u8; 64]) -> &'a [u8] {
+fn read_order<'a>(place: &mut Place, numbers: &'a mut [u8; 64]) -> &'a [u8]
+    ensures { length result.now ≤ 64 }
+{
     let count = place.next_up_to(64) as usize;
     for number in numbers.iter_mut().take(count) {
         *number = place.next_up_to(255) as u8;
