@@ -32,9 +32,9 @@ p & q = (p, q)
 pub listed : All table
 unfolding All Holds table rings.Holds rings.answers of_bits of_int round neg add sub mul lt is_nan max_of min_of ceil_of gap_of is_plus_zero all_plus_zero tab state_at zip_with line_of with_line line_at with_line_at heard laid write stale_at cleared pool_ok shape_ok window_ok has_buffer reach_of ring.tapped ring.in_ring ring.delay_of ring.delayed_by comb combed passed all_found numbers_of sum_to own_of put_played staged louder orderly all_to rings_ok entry fault_of fault turned judged ended rendered after_by run_of
 listed =
-    (refl, refl) & (refl, refl) & (refl, refl) & (refl, refl) & (refl, refl)
+    (refl, refl, refl) & (refl, refl, refl) & (refl, refl, refl) & (refl, refl, refl) & (refl, refl, refl)
     & refl & refl & refl & refl & refl & refl & refl
-    & (refl, refl) & (refl, refl) & (refl, refl) & tt
+    & (refl, refl, refl) & (refl, refl, refl) & (refl, refl, refl) & tt
 
 -- what holds of a list of cases holds of it from any row on, counted from 0
 pub from : (n : ℕ) (cs : List Case) → All cs → All (drop n cs)

@@ -11,6 +11,7 @@ use Rattle.answers.specs.declared.activity.StageActivity.{StageActivity}
 use Rattle.answers.specs.declared.refusal.Reason.{Reason}
 use Rattle.answers.specs.declared.refusal.Reason.TheVariants.{Clash}
 use Rattle.answers.specs.declared.refusal.Refusal.{Refusal}
+use Rattle.answers.specs.Refusal.{told_of, activity_of}
 use Rattle.magnetron.specs.Pools.{fresh_pool}
 use Rattle.magnetron.specs.declared.buffer.BufferIndex.TheVariants as index
 use Rattle.magnetron.specs.declared.pool.Pools.{Pools}
@@ -56,16 +57,25 @@ added buffers n order = run_of (given adder (pools_of buffers) new_states n one6
 
 -- ---- the sorts of cases
 
+-- an answer in the document's words: "its number, the stage .. and Exhausted", or 0, 32 and an activity
+pub record Words : Type 0 where
+  pub number : ℕ
+  pub stage : ℕ
+  pub activity : StageActivity
+
+abbrev words_of : Result StageActivity Refusal → Words
+words_of answer = record { number = (told_of answer).number; stage = (told_of answer).stage; activity = activity_of answer }
+
 pub data Case : Type 0 where
-  -- buffers, window and order of such a run; its answer, and what the buffers hold then
-  a_run : List Buffer → ℕ → List ℕ → Result StageActivity Refusal → List Float → Case
+  -- buffers, window and order of such a run; its answer, the same in the document's words, and what the buffers hold then
+  a_run : List Buffer → ℕ → List ℕ → Result StageActivity Refusal → Words → List Float → Case
   -- a ring, an all-pass or a comb by itself
   a_ring : rings.Case → Case
 
 unfoldable pub Holds : Case → Type 0
-Holds (a_run buffers n order answer samples) =
+Holds (a_run buffers n order answer words samples) =
     let after = added buffers n order in
-    (after.ran.answer ≡ answer) × (after.internal ≡ samples)
+    (after.ran.answer ≡ answer) × (after.internal ≡ samples) × (words_of after.ran.answer ≡ words)
 Holds (a_ring c) = rings.Holds c
 
 -- every case of a list holds
@@ -75,9 +85,16 @@ All (c ∷ cs) = Holds c × All cs
 
 -- ---- the words of the table
 
--- "7" is the number of `Clash`, which `number_of` of answers gives
 abbrev refused : Reason → ℕ → Result StageActivity Refusal
 refused reason stage = Err (record { reason = reason; stage = Some stage })
+
+-- a number, at a stage
+abbrev told : ℕ → ℕ → Words
+told number stage = record { number = number; stage = stage; activity = Exhausted }
+
+-- "0: done; stage 32", with an activity
+abbrev done : StageActivity → Words
+done activity = record { number = 0; stage = 32; activity = activity }
 
 abbrev pub whole : ℕ → Float
 whole n = of_int binary64 (pos n)
@@ -108,14 +125,14 @@ impulse n = whole 1 ∷ replicate n (whole 0)
 unfoldable pub table : List Case
 table =
     -- 1: "Stale buffer, store -0.0: -0.0 stays."
-    a_run (stale (whole 7) ∷ holding minus_zero ∷ []) 1 (1 ∷ []) (Ok Internal) (minus_zero ∷ minus_zero ∷ [])
+    a_run (stale (whole 7) ∷ holding minus_zero ∷ []) 1 (1 ∷ []) (Ok Internal) (done Internal) (minus_zero ∷ minus_zero ∷ [])
     -- 2: "Not stale, 0.0 there, add -0.0: 0.0."
-    ∷ a_run (holding (whole 0) ∷ holding minus_zero ∷ []) 1 (1 ∷ []) (Ok Internal) (whole 0 ∷ minus_zero ∷ [])
+    ∷ a_run (holding (whole 0) ∷ holding minus_zero ∷ []) 1 (1 ∷ []) (Ok Internal) (done Internal) (whole 0 ∷ minus_zero ∷ [])
     -- 3: "Input is output, stale, Pass: zeros."
-    ∷ a_run (stale (whole 7) ∷ []) 1 (0 ∷ []) (Ok Internal) (whole 0 ∷ [])
+    ∷ a_run (stale (whole 7) ∷ []) 1 (0 ∷ []) (Ok Internal) (done Internal) (whole 0 ∷ [])
     -- 4: "Same, not stale, n = 1: 7; n = 0: 0."
-    ∷ a_run (holding (whole 7) ∷ []) 1 (0 ∷ []) (refused Clash 0) (whole 7 ∷ [])
-    ∷ a_run (holding (whole 7) ∷ []) 0 (0 ∷ []) (Ok Internal) (whole 7 ∷ [])
+    ∷ a_run (holding (whole 7) ∷ []) 1 (0 ∷ []) (refused Clash 0) (told 7 0) (whole 7 ∷ [])
+    ∷ a_run (holding (whole 7) ∷ []) 0 (0 ∷ []) (Ok Internal) (done Internal) (whole 7 ∷ [])
     -- 5 to 9: "Ring (10, 20, 30), position 0: f = 0 gives 10; f = 0.25 gives 20; f = 0.5, 30; f = 0.75, 25; f = 1, 20."
     ∷ a_ring (ring_read tens 0 (whole 0) (whole 10))
     ∷ a_ring (ring_read tens 0 quarter64 (whole 20))
@@ -127,8 +144,8 @@ table =
     -- 11: "Comb, ring length 3, response 0.5, limit 1, whole delay, input 1,0,0,0,0: 0, 0, 0.5, 0, 0.25."
     ∷ a_ring (comb_run 3 half64 (whole 1) (impulse 4) (whole 0 ∷ whole 0 ∷ half64 ∷ whole 0 ∷ quarter64 ∷ []))
     -- 12: "Adding 1e16, -1e16, 1 gives 1; 1e16, 1, -1e16 gives 0: such writers may not change places."
-    ∷ a_run terms 1 (1 ∷ 2 ∷ 3 ∷ []) (Ok Internal) (whole 1 ∷ e16 ∷ neg e16 ∷ whole 1 ∷ [])
-    ∷ a_run terms 1 (1 ∷ 3 ∷ 2 ∷ []) (Ok Internal) (whole 0 ∷ e16 ∷ neg e16 ∷ whole 1 ∷ [])
+    ∷ a_run terms 1 (1 ∷ 2 ∷ 3 ∷ []) (Ok Internal) (done Internal) (whole 1 ∷ e16 ∷ neg e16 ∷ whole 1 ∷ [])
+    ∷ a_run terms 1 (1 ∷ 3 ∷ 2 ∷ []) (Ok Internal) (done Internal) (whole 0 ∷ e16 ∷ neg e16 ∷ whole 1 ∷ [])
     -- 13: "Empty order, checks 1 to 4 passed: 0, Exhausted." Here one run; of any input, `thirteen` of proofs/Listed.antt
-    ∷ a_run terms 1 [] (Ok Exhausted) (whole 0 ∷ e16 ∷ neg e16 ∷ whole 1 ∷ [])
+    ∷ a_run terms 1 [] (Ok Exhausted) (done Exhausted) (whole 0 ∷ e16 ∷ neg e16 ∷ whole 1 ∷ [])
     ∷ []
