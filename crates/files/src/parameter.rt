@@ -11,8 +11,8 @@ use flat::patch::no_parameter;
 use flat::stage::FlatParameter;
 
 impl<'a> Reading<'a> {
-    // Its mark, and what the mark says that there is: bits, or a slot. In line, so that the offset need not lie in memory: a file of 30 stages takes half
-    // as long again where it does.
+    // Its mark, and what the mark says that there is: bits, or a slot. In line, as the one below, so that the offset need not lie in memory: a file of
+    // 30 stages takes up to twice as long where it does.
     #[inline(always)]
     pub(crate) fn parameter(&mut self) -> Result<FlatParameter, Fault>
         ensures said { told result self.new.offset ≡ parameter self.old.bytes.now self.old.offset }
@@ -25,6 +25,7 @@ impl<'a> Reading<'a> {
     }
 
     // A parameter where the kind has it, else an absent one with nothing read.
+    #[inline(always)]
     pub(crate) fn parameter_if(&mut self, there: bool) -> Result<FlatParameter, Fault>
         ensures said { told result self.new.offset ≡ if_there there no_parameter parameter self.old.bytes.now self.old.offset }
         ensures kept { self.new.bytes ≡ self.old.bytes }
